@@ -1,0 +1,186 @@
+-- Linear facts on ℤ for `omega`: an integer z is `up z - dn z`, of two naturals.
+-- Both are `abbrev`, so that at `pos n` and `negsuc n`, literals among them, they compute.
+-- Assumes nothing.
+use mathlib.Core.Path.{_≡_, refl, sym, ap, _∙_, subst}
+use mathlib.Core.Bool.{Bool, true, false, not, cond}
+use Prim.Native.Nat.{ℕ, zero, suc, _+_, _-_, _*_, _≤_, _<_, _^_}
+use native.Mathlib.Omega.{arith}
+use lib.Dec.{T, eqb, eqb→eq, ltb, leb, ltb→lt, nltb→le, leb→le, le→leb, nleb→lt, lt→ltb}
+use lib.IntN.{ℤ, pos, negsuc, negℤ, subℕ, _+ℤ_, _-ℤ_, natAbs}
+use lib.Signed.{leZ, ltZ, mag, nonNeg, _≤ℤ_, _<ℤ_}
+use mir.Syntax.{w64}
+use mir.Val.{SFits, Fits, toZ, ofZ}
+use mir.ValLaws.{toZ-ofZ}
+use Rattle.ints.specs.Sides.{up, dn, size}
+
+-- ---- sums, differences, negations: an entry of `omega`'s list for each compound term
+split : (c : Bool) (x y : ℤ) (P : ℤ → Type 0) → (T c → P x) → (T (not c) → P y) → P (cond c x y)
+split true x y P f g = f tt
+split false x y P f g = g tt
+
+sub-ud : (a b : ℕ) → up (subℕ a b) + b ≡ a + dn (subℕ a b)
+sub-ud a b = split (ltb a b) (negsuc (b - suc a)) (pos (a - b)) (λ (z : ℤ). up z + b ≡ a + dn z)
+    (λ t. let h : a < b = ltb→lt a b t in omega arith)
+    (λ t. let h : b ≤ a = nltb→le a b t in omega arith)
+
+-- where both are `pos` of something, `+ℤ` and `-ℤ` compute to `subℕ`, and this is the entry
+pub diff : (a b : ℕ) → up (subℕ a b) + b ≡ a + dn (subℕ a b)
+diff = sub-ud
+
+pub plus : (a b : ℤ) → up (a +ℤ b) + (dn a + dn b) ≡ (up a + up b) + dn (a +ℤ b)
+plus (pos a) (pos b) = omega arith
+plus (pos a) (negsuc b) = omega (arith, sub-ud a (suc b))
+plus (negsuc a) (pos b) = omega (arith, sub-ud b (suc a))
+plus (negsuc a) (negsuc b) = omega arith
+
+pub up-neg : (a : ℤ) → up (negℤ a) ≡ dn a
+up-neg (pos zero) = refl
+up-neg (pos (suc n)) = refl
+up-neg (negsuc n) = refl
+
+pub dn-neg : (a : ℤ) → dn (negℤ a) ≡ up a
+dn-neg (pos zero) = refl
+dn-neg (pos (suc n)) = refl
+dn-neg (negsuc n) = refl
+
+pub minus : (a b : ℤ) → up (a -ℤ b) + (dn a + up b) ≡ (up a + dn b) + dn (a -ℤ b)
+minus a b = omega (arith, plus a (negℤ b), up-neg b, dn-neg b)
+
+-- how large a sum and a difference can be: `omega` does not know that one of a number's two sides is 0
+sized : (z : ℤ) (p q : ℕ) → up z + q ≡ p + dn z → size z ≤ p + q
+sized (pos n) p q e = omega arith
+sized (negsuc n) p q e = omega arith
+
+pub plus-size : (a b : ℤ) → size (a +ℤ b) ≤ size a + size b
+plus-size a b = omega (arith, sized (a +ℤ b) (up a + up b) (dn a + dn b) (plus a b))
+
+pub minus-size : (a b : ℤ) → size (a -ℤ b) ≤ size a + size b
+minus-size a b = omega (arith, sized (a -ℤ b) (up a + dn b) (dn a + up b) (minus a b))
+
+-- ---- what a hypothesis says: rules of `omega`'s list
+pub of-≡ : {a b : ℤ} → a ≡ b → up a + dn b ≡ up b + dn a
+of-≡ {a} {b} e = subst (λ (z : ℤ). up a + dn z ≡ up z + dn a) e refl
+
+leT : (a b : ℤ) → T (leZ a b) → up a + dn b ≤ up b + dn a
+leT (pos a) (pos b) t = let h = leb→le a b t in omega arith
+leT (pos a) (negsuc b) t = absurd t
+leT (negsuc a) (pos b) t = omega arith
+leT (negsuc a) (negsuc b) t = let h = leb→le b a t in omega arith
+
+ltT : (a b : ℤ) → T (ltZ a b) → up a + dn b < up b + dn a
+ltT (pos a) (pos b) t = let h = ltb→lt a b t in omega arith
+ltT (pos a) (negsuc b) t = absurd t
+ltT (negsuc a) (pos b) t = omega arith
+ltT (negsuc a) (negsuc b) t = let h = ltb→lt b a t in omega arith
+
+pub of-≤ : {a b : ℤ} → a ≤ℤ b → up a + dn b ≤ up b + dn a
+of-≤ {a} {b} h = leT a b (h .le)
+
+pub of-< : {a b : ℤ} → a <ℤ b → up a + dn b < up b + dn a
+of-< {a} {b} h = ltT a b (h .lt)
+
+-- ---- what a goal asks
+toLeT : (a b : ℤ) → up a + dn b ≤ up b + dn a → T (leZ a b)
+toLeT (pos a) (pos b) h = le→leb a b (omega arith)
+toLeT (pos a) (negsuc b) h = omega arith
+toLeT (negsuc a) (pos b) h = tt
+toLeT (negsuc a) (negsuc b) h = le→leb b a (omega arith)
+
+toLtT : (a b : ℤ) → up a + dn b < up b + dn a → T (ltZ a b)
+toLtT (pos a) (pos b) h = lt→ltb a b (omega arith)
+toLtT (pos a) (negsuc b) h = omega arith
+toLtT (negsuc a) (pos b) h = tt
+toLtT (negsuc a) (negsuc b) h = lt→ltb b a (omega arith)
+
+pub to-≤ : {a b : ℤ} → up a + dn b ≤ up b + dn a → a ≤ℤ b
+to-≤ {a} {b} h = record { le = toLeT a b h }
+
+pub to-< : {a b : ℤ} → up a + dn b < up b + dn a → a <ℤ b
+to-< {a} {b} h = record { lt = toLtT a b h }
+
+pub to-≡ : {a b : ℤ} → up a + dn b ≡ up b + dn a → a ≡ b
+to-≡ {a = pos a} {b = pos b} h = ap pos (omega arith)
+to-≡ {a = pos a} {b = negsuc b} h = let z : ⊥ = omega arith in absurd z
+to-≡ {a = negsuc a} {b = pos b} h = let z : ⊥ = omega arith in absurd z
+to-≡ {a = negsuc a} {b = negsuc b} h = ap negsuc (omega arith)
+
+-- ---- tests
+pub leZ-true : (a b : ℤ) → leZ a b ≡ true → up a + dn b ≤ up b + dn a
+leZ-true a b e = leT a b (subst T (sym e) tt)
+
+pub ltZ-true : (a b : ℤ) → ltZ a b ≡ true → up a + dn b < up b + dn a
+ltZ-true a b e = ltT a b (subst T (sym e) tt)
+
+pub leZ-false : (a b : ℤ) → leZ a b ≡ false → up b + dn a < up a + dn b
+leZ-false (pos a) (pos b) e = let h = nleb→lt a b (subst (λ (x : Bool). T (not x)) (sym e) tt) in omega arith
+leZ-false (pos a) (negsuc b) e = omega arith
+leZ-false (negsuc a) (pos b) e = absurd (subst T e tt)
+leZ-false (negsuc a) (negsuc b) e = let h = nleb→lt b a (subst (λ (x : Bool). T (not x)) (sym e) tt) in omega arith
+
+pub ltZ-false : (a b : ℤ) → ltZ a b ≡ false → up b + dn a ≤ up a + dn b
+ltZ-false (pos a) (pos b) e = let h = nltb→le a b (subst (λ (x : Bool). T (not x)) (sym e) tt) in omega arith
+ltZ-false (pos a) (negsuc b) e = omega arith
+ltZ-false (negsuc a) (pos b) e = absurd (subst T e tt)
+ltZ-false (negsuc a) (negsuc b) e = let h = nltb→le b a (subst (λ (x : Bool). T (not x)) (sym e) tt) in omega arith
+
+-- ---- fit
+pub up-fits : {z : ℤ} → SFits w64 z → up z < 2 ^ 63
+up-fits {z = pos n} h = h .sfits
+up-fits {z = negsuc n} h = omega arith
+
+pub dn-fits : {z : ℤ} → SFits w64 z → dn z ≤ 2 ^ 63
+dn-fits {z = pos n} h = omega arith
+dn-fits {z = negsuc n} h = h .sfits
+
+-- one statement, so that it is a rule for a goal: at z ≥ 0 the second difference is 0, and below it the first
+pub to-fits : {z : ℤ} → (up z - dn z) + (dn z - suc (up z)) < 2 ^ 63 → SFits w64 z
+to-fits {z = pos n} h = record { sfits = omega arith }
+to-fits {z = negsuc n} h = record { sfits = omega arith }
+
+-- what the machine reads back from a signed number's bits
+pub up-back : {z : ℤ} → SFits w64 z → up (toZ w64 (ofZ w64 z)) ≡ up z
+up-back {z} h = ap up (toZ-ofZ w64 z h)
+
+pub dn-back : {z : ℤ} → SFits w64 z → dn (toZ w64 (ofZ w64 z)) ≡ dn z
+dn-back {z} h = ap dn (toZ-ofZ w64 z h)
+
+pub back : {z : ℤ} → SFits w64 z → up (toZ w64 (ofZ w64 z)) + dn z ≡ up z + dn (toZ w64 (ofZ w64 z))
+back {z} h = of-≡ (toZ-ofZ w64 z h)
+
+-- a local whose bits are z's
+pub landed : {b : ℕ} {z : ℤ} → b ≡ ofZ w64 z → SFits w64 z → toZ w64 b ≡ z
+landed {b} {z} e f = ap (toZ w64) e ∙ toZ-ofZ w64 z f
+
+-- `==` of two signed numbers tests their bits
+pub bits-≡ : {a b : ℤ} → SFits w64 a → SFits w64 b → ofZ w64 a ≡ ofZ w64 b → a ≡ b
+bits-≡ {a} {b} f g e = sym (toZ-ofZ w64 a f) ∙ ap (toZ w64) e ∙ toZ-ofZ w64 b g
+
+pub eqb-bits : {a b : ℤ} → SFits w64 a → SFits w64 b → eqb (ofZ w64 a) (ofZ w64 b) ≡ true → a ≡ b
+eqb-bits {a} {b} f g e = bits-≡ f g (eqb→eq (ofZ w64 a) (ofZ w64 b) (subst T (sym e) tt))
+
+-- ---- casts: `x as usize` asks these two of a signed x
+pub to-nonNeg : (z : ℤ) → dn z ≤ up z → T (nonNeg z)
+to-nonNeg (pos n) h = tt
+to-nonNeg (negsuc n) h = omega arith
+
+pub natAbs-ud : (z : ℤ) → natAbs z ≡ up z + dn z
+natAbs-ud (pos n) = omega arith
+natAbs-ud (negsuc n) = omega arith
+
+pub to-abs-fits : (z : ℤ) → (up z - dn z) + (dn z - up z) < 2 ^ 64 → Fits w64 (natAbs z)
+to-abs-fits (pos n) h = record { fits = omega arith }
+to-abs-fits (negsuc n) h = record { fits = omega arith }
+
+pub of-nonNeg : (z : ℤ) → T (nonNeg z) → dn z ≡ 0
+of-nonNeg (pos n) h = refl
+of-nonNeg (negsuc n) h = absurd h
+
+-- a flag that was answered the other way
+pub never-true : false ≡ true → ⊥
+never-true e = subst T (sym e) tt
+
+pub never-false : true ≡ false → ⊥
+never-false e = subst T e tt
+
+-- the whole list: `omega zlin`, or `omega (zlin, plus a b)` with an entry for each compound term
+pub ruleset zlin = (arith, of-≡, of-≤, of-<, leZ-true, leZ-false, ltZ-true, ltZ-false, back, to-≡, to-≤, to-<, to-fits, to-nonNeg, to-abs-fits, of-nonNeg, never-true, never-false)

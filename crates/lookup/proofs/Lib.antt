@@ -1,0 +1,3 @@
+pub mod Tabulate
+pub mod Entries
+pub mod Passing

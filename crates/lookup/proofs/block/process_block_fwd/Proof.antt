@@ -1,0 +1,41 @@
+-- `lookup::process_block_fwd` meets its contract: the byte's bits decide, or its numbers pass over it. Assumes nothing.
+use mathlib.Core.Path.{_≡_, sym, ap, _∙_}
+use native.Mathlib.Omega.{arith}
+use borrow.Author.Needs.{needs}
+use mir.Syntax.{w64}
+use mir.ValLaws.{toZ-ofZ}
+use Rattle.row.specs.Bits.{digit}
+use Rattle.stretch.specs.declared.numbers.Numbers.{Numbers}
+use Rattle.stretch.specs.Numbers.{holdsFor}
+use Rattle.stretch.proofs.Covers.{skip-forward}
+use Rattle.lookup.proofs.Passing.{total-back, less-fits}
+use Rattle.lookup.proofs.block.process_block_fwd.Statement.{statement}
+use Rattle.lookup.proofs.block.process_block_fwd.Tie as tie
+
+byte-numbers-requires : tie.Need-byte-numbers-requires
+byte-numbers-requires c κs = search needs
+
+holds-requires : tie.Need-holds-requires
+holds-requires c κs = search needs
+
+bits-fwd-requires : tie.Need-bits-fwd-requires
+bits-fwd-requires c κs = search needs
+
+returns : tie.Need-returns
+returns c = rw (toZ-ofZ w64 _ (c .before .before .before .before .fits .r)) at (c .bits-fwd .ensures)
+
+sub-t7 : tie.Need-sub-t7
+sub-t7 c =
+    let s = c .before .before .before .before .before in
+    rw (toZ-ofZ w64 _ (s .fits .r), total-back (digit (s .args .b)) _ (c .before .before .before .before .byte-numbers .ensures)) (less-fits (digit (s .args .b)) (s .args .r) (s .pre .1))
+
+returns-2 : tie.Need-returns-2
+returns-2 c =
+    let s = c .before .before .before .before .before in
+    let x = c .before .before .before .before .byte-numbers in
+    let f = digit (s .args .b) in
+    let h = sym (ap (λ (y : Numbers). holdsFor y (s .args .r)) (x .ensures)) ∙ rw (toZ-ofZ w64 _ (s .fits .r)) at (sym (c .before .before .before .holds .ensures) ∙ c .before .before .if1 .left) in
+    rw (toZ-ofZ w64 _ (sub-t7 c), toZ-ofZ w64 _ (s .fits .r), total-back f _ (x .ensures)) (sym (skip-forward f 8 0 (omega arith) (s .args .r) h))
+
+pub process-block-fwd-spec : {M : Type 1} → statement M
+process-block-fwd-spec = tie.close (tie.spec byte-numbers-requires holds-requires bits-fwd-requires returns sub-t7 returns-2)

@@ -1,0 +1,18 @@
+-- `lookup::table` meets its contract: the table is the list that the rule makes, which is computed over all 256 bytes at once.
+-- Assumes nothing.
+use Prim.Native.Nat.{ℕ}
+use Rattle.ints.specs.Order.{minZ, maxZ}
+use Rattle.row.specs.Bits.{digit}
+use Rattle.row.specs.Excess.{sign, excess}
+use Rattle.stretch.specs.Numbers.{run, lowest, highest, numbersOf}
+use Rattle.lookup.specs.Table.{encoded, IsTable}
+use Rattle.lookup.proofs.Tabulate.{made, made-at}
+use Rattle.lookup.proofs.encoding.table.Statement.{statement}
+use Rattle.lookup.proofs.encoding.table.Tie as tie
+
+returns : tie.Need-returns
+unfolding IsTable encoded numbersOf run lowest highest minZ maxZ excess sign made
+returns c = made-at (λ b. encoded (numbersOf (digit b) 0 8)) 256
+
+pub table-spec : {M : Type 1} → statement M
+table-spec = tie.close (tie.spec returns)

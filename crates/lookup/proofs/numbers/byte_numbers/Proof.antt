@@ -1,0 +1,63 @@
+-- `lookup::byte_numbers` meets its contract: an entry gives back what was put into it. Assumes nothing.
+use mathlib.Core.Path.{sym, ap, _∙_}
+use Prim.Native.Nat.{ℕ, _/_, _%_}
+use lib.IntN.{pos, _-ℤ_}
+use mir.Syntax.{w64}
+use mir.ValLaws.{toZ-ofZ}
+use borrow.Author.Needs.{needs}
+use native.Mathlib.Omega.{arith}
+use Rattle.row.specs.Bits.{digit}
+use Rattle.stretch.specs.Numbers.{numbersOf}
+use Rattle.stretch.proofs.Full.{numbers-size}
+use Rattle.lookup.proofs.Entries.{entry-of, entry-small, entry-least, entry-greatest, from-start}
+use Rattle.lookup.proofs.numbers.byte_numbers.Statement.{statement}
+use Rattle.lookup.proofs.numbers.byte_numbers.Tie as tie
+
+mul-e : tie.Need-mul-e
+mul-e c = search needs
+
+element-copy-out-e : tie.Need-element-copy-out-e
+element-copy-out-e c = search needs
+
+byte-total-requires : tie.Need-byte-total-requires
+byte-total-requires c κs = search needs
+
+cast-surplus : tie.Need-cast-surplus
+cast-surplus c =
+    let s = c .before .before in
+    let e = entry-of (s .args .t .now) (s .args .b) (s .pre) (s .fits .b .fits) in
+    record { fits = omega (arith, e, entry-small (numbersOf (digit (s .args .b)) 0 8) (numbers-size (digit (s .args .b)) 0 8)) }
+
+surplus-requires : tie.Need-surplus-requires
+surplus-requires c κs = search needs
+
+cast-surplus-2 : tie.Need-cast-surplus-2
+cast-surplus-2 c = search needs
+
+surplus-requires-2 : tie.Need-surplus-requires-2
+surplus-requires-2 c κs = search needs
+
+returns : tie.Need-returns
+returns c =
+    let s = c .before .before .before .before in
+    let b = s .args .b in
+    let x = numbersOf (digit b) 0 8 in
+    let z = numbers-size (digit b) 0 8 in
+    let e = entry-of (s .args .t .now) b (s .pre) (s .fits .b .fits) in
+    let p = toZ-ofZ w64 _ (record { sfits = c .before .before .byte-total .ok }) ∙ c .before .before .byte-total .ensures ∙ sym (from-start (digit b) 8) in
+    let q = toZ-ofZ w64 _ (record { sfits = c .before .surplus .ok }) ∙ c .before .surplus .ensures ∙ ap (λ (k : ℕ). pos (k / 32) -ℤ pos 8) e ∙ entry-least x z in
+    let r = toZ-ofZ w64 _ (record { sfits = c .surplus2 .ok }) ∙ c .surplus2 .ensures ∙ ap (λ (k : ℕ). pos (k % 32) -ℤ pos 8) e ∙ entry-greatest x z in
+    λ i. record { total = p i; least = q i; greatest = r i }
+
+pub byte-numbers-spec : {M : Type 1} → statement M
+byte-numbers-spec =
+    tie.close
+    (tie.spec
+    mul-e
+    element-copy-out-e
+    byte-total-requires
+    cast-surplus
+    surplus-requires
+    cast-surplus-2
+    surplus-requires-2
+    returns)

@@ -1,0 +1,10 @@
+pub mod Gates
+pub mod Digits
+pub mod Excess
+pub mod Bools
+pub mod Nearest
+pub mod First
+pub mod Last
+pub mod Meaning
+pub mod Tree
+pub mod Surplus

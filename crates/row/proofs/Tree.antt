@@ -1,0 +1,64 @@
+-- One tree, as a test and as a claim.
+--   all-each, each-all: a test of all numbers below a bound
+--   oneTree-true, oneTree-yes: what the test of a tree found, and what it finds
+-- Assumes nothing.
+use mathlib.Core.Path.{_≡_, refl}
+use mathlib.Core.Bool.{Bool, true, _&&_}
+use mathlib.Core.List.{List}
+use Prim.Native.Nat.{ℕ, zero, suc, _-_, _<_}
+use native.Mathlib.Decide.{decLt}
+use native.Mathlib.Omega.{arith}
+use borrow.Author.Tests.{leb-true, le-leb}
+use lib.Dec.{leb}
+use lib.IntN.{pos}
+use lib.Signed.{ltZ, _<ℤ_}
+use Rattle.ints.specs.Order.{eqZ}
+use Rattle.ints.proofs.Order.{eqZ-true, eqZ-yes}
+use Rattle.ints.proofs.Shapes.{zsum}
+use Rattle.row.specs.Excess.{E}
+use Rattle.row.specs.Tree.{OneTree, allBelow, oneTree}
+use Rattle.row.proofs.Bools.{and-left, and-right, and-both, is-true}
+
+module _ (p : ℕ → Bool) where
+  pub all-each : (c k : ℕ) → k < c → allBelow p c ≡ true → p k ≡ true
+  unfolding allBelow
+  all-each zero k l h = absurd (omega arith)
+  all-each (suc c) k l h = elim (decLt k c) [
+    | yes m ↦ all-each c k m (and-right (p c) (allBelow p c) h)
+    | no m ↦ let e : k ≡ c = omega arith in rw e (and-left (p c) (allBelow p c) h)
+  ]
+
+  pub each-all : (c : ℕ) → ((k : ℕ) → k < c → p k ≡ true) → allBelow p c ≡ true
+  unfolding allBelow
+  each-all zero h = refl
+  each-all (suc c) h = and-both (p c) (allBelow p c) (h c (omega arith)) (each-all c (λ k l. h k (omega arith)))
+
+module _ (ws : List ℕ) (n : ℕ) where
+  -- the tests of n and of E(n)
+  abbrev ends : Bool
+  ends = leb 2 n && eqZ (E ws n) (pos 0)
+
+  -- the test of E(k + 1)
+  abbrev over : ℕ → Bool
+  over k = ltZ (pos 0) (E ws (suc k))
+
+  pub oneTree-true : oneTree ws n ≡ true → OneTree ws n
+  unfolding oneTree
+  oneTree-true h =
+      let g = and-left ends (allBelow over (n - 1)) h in
+      record {
+        two = leb-true 2 n (and-left (leb 2 n) (eqZ (E ws n) (pos 0)) g);
+        closed = eqZ-true (E ws n) (pos 0) (and-right (leb 2 n) (eqZ (E ws n) (pos 0)) g);
+        above = above;
+      }
+    where
+      above : (k : ℕ) → 0 < k → k < n → pos 0 <ℤ E ws k
+      above zero l m = absurd (omega arith)
+      above (suc k) l m = let u = all-each over (n - 1) k (omega arith) (and-right ends (allBelow over (n - 1)) h) in omega zsum
+
+  pub oneTree-yes : OneTree ws n → oneTree ws n ≡ true
+  unfolding oneTree
+  oneTree-yes t =
+      and-both ends (allBelow over (n - 1))
+      (and-both (leb 2 n) (eqZ (E ws n) (pos 0)) (le-leb 2 n (t .two)) (eqZ-yes (E ws n) (pos 0) (t .closed)))
+      (each-all over (n - 1) (λ k l. is-true (over k) (t .above (suc k) (omega arith) (omega arith) .lt)))

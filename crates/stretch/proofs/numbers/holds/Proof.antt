@@ -1,0 +1,26 @@
+-- `stretch::numbers::holds` meets its contract: the second test where the first holds, and the first where it does not. Assumes nothing.
+use mir.Syntax.{w64}
+use mir.Val.{SFits}
+use mir.ValLaws.{toZ-ofZ}
+use native.Mathlib.Omega.{arith}
+use Rattle.stretch.specs.Numbers.{holdsFor}
+use Rattle.stretch.proofs.numbers.holds.Statement.{statement}
+use Rattle.stretch.proofs.numbers.holds.Tie as tie
+
+returns : tie.Need-returns
+unfolding holdsFor
+returns c =
+    let s = c .before .before .before .before .before in
+    let f : SFits w64 (s .args .x .least) = omega arith in
+    let g : SFits w64 (s .args .x .greatest) = omega arith in
+    rw (toZ-ofZ w64 _ (s .fits .r), toZ-ofZ w64 _ g, rw (toZ-ofZ w64 _ f, toZ-ofZ w64 _ (s .fits .r)) at (c .before .before .if1 .taken))
+
+returns-2 : tie.Need-returns-2
+unfolding holdsFor
+returns-2 c =
+    let s = c .before .before .before in
+    let f : SFits w64 (s .args .x .least) = omega arith in
+    rw (toZ-ofZ w64 _ f, toZ-ofZ w64 _ (s .fits .r), rw (toZ-ofZ w64 _ f, toZ-ofZ w64 _ (s .fits .r)) at (c .if1 .left))
+
+pub holds-spec : {M : Type 1} → statement M
+holds-spec = tie.close (tie.spec returns returns-2)

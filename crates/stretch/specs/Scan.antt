@@ -1,0 +1,33 @@
+-- A scan of bits one by one, forward or backward, for an excess.
+-- Assumes nothing.
+use mathlib.Core.Bool.{cond}
+use Prim.Native.Nat.{ℕ, zero, suc, _+_}
+use lib.IntN.{ℤ, pos, _+ℤ_, _-ℤ_}
+use Rattle.ints.specs.Order.{eqZ}
+use Rattle.row.specs.Excess.{sign}
+use Rattle.row.specs.Way.{Way, forward, backward}
+use Rattle.stretch.specs.declared.bits.Scanned.{Scanned}
+use Rattle.stretch.specs.declared.bits.Scanned.the-variants.{Hit, Left}
+
+-- of the c + 1 bits from j on, the place of the one that is read first
+abbrev pub place : Way → ℕ → ℕ → ℕ
+place forward c j = j
+place backward c j = j + c
+
+-- where the other c begin
+abbrev pub rest : Way → ℕ → ℕ
+rest forward j = suc j
+rest backward j = j
+
+-- what is left of r once the bit b is read: forward it has been passed, backward it is taken back
+abbrev pub less : Way → ℤ → ℕ → ℤ
+less forward r b = r -ℤ sign b
+less backward r b = r +ℤ sign b
+
+-- the c bits of f from j on: the place at which nothing is left of r, or what is left after them
+unfoldable pub scan : Way → (ℕ → ℕ) → ℕ → ℕ → ℤ → Scanned
+scan d f zero j r = Left r
+scan d f (suc c) j r =
+    let x = place d c j in
+    let q = less d r (f x) in
+    cond (eqZ q (pos 0)) (Hit x) (scan d f c (rest d j) q)

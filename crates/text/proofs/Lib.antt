@@ -1,0 +1,3 @@
+pub mod Packed
+pub mod Text
+pub mod Meaning

@@ -1,0 +1,69 @@
+-- What the reader leaves in the words, said of bits and words alone. No function's proof needs these: they say what its promise means.
+--   refusal-keeps, length-stays, past-stays: of any text; bits-are, unused-zero: of a text that is read
+-- Assumes nothing.
+use mathlib.Core.Path.{_≡_, refl, sym, ap, _∙_}
+use mathlib.Core.List.{List, _++_}
+use Prim.Native.Nat.{ℕ, _+_, _-_, _*_, _/_, _%_, _≤_, _<_}
+use native.Mathlib.Omega.{arith}
+use lib.ListN.{length, getD, drop, length-append, length-drop, List·getD-append}
+use lib.Seq.{getD-append-add, getD-drop}
+use Rattle.row.specs.declared.refusal.Refusal.{Refusal}
+use Rattle.row.specs.declared.gate.Gate.{Gate}
+use Rattle.row.specs.declared.gate.Gate.the-variants.{Open, Shut}
+use Rattle.row.specs.Bits.{digit, bitAt}
+use Rattle.row.specs.Gates.{wordsFor}
+use Rattle.text.specs.Text.{textBit, wordOf, wordsOf, textGate, textWords}
+use Rattle.text.proofs.Packed.{packed-digit}
+use Rattle.text.proofs.Text.{bit-lt, bit-past, words-length, words-at, text-fits, words-open, words-shut}
+
+-- digit j of word k is bit 64 k + j
+word-digit : (s : List ℕ) (k j : ℕ) → j < 64 → digit (wordOf s k) j ≡ textBit s (64 * k + j)
+unfolding wordOf
+word-digit s k j h = packed-digit (textBit s) (bit-lt s) (64 * k) 64 j h
+
+-- past the m words that are written, a word is as it came
+word-past : (s ws : List ℕ) (m k : ℕ) → m ≤ k → getD (wordsOf s m ++ drop m ws) k 0 ≡ getD ws k 0
+word-past s ws m k h =
+    let e : length (wordsOf s m) + (k - m) ≡ k = omega (arith, words-length s m) in
+    let d : m + (k - m) ≡ k = omega arith in
+    cc (getD-append-add (wordsOf s m) (drop m ws) (k - m) 0, getD-drop m ws (k - m) 0)
+
+module _ (s ws : List ℕ) where
+  -- a refusal leaves every word
+  pub refusal-keeps : (k : Refusal) → textGate s (length ws) ≡ Shut k → textWords s ws ≡ ws
+  refusal-keeps k g = sym (words-shut s ws k g)
+
+  -- there are as many words as before
+  pub length-stays : length (textWords s ws) ≡ length ws
+  length-stays = by (textGate s (length ws)) refl
+    where
+      by : (g : Gate) → textGate s (length ws) ≡ g → length (textWords s ws) ≡ length ws
+      by Open g =
+          let f = text-fits s (length ws) g in
+          rw (← words-open s ws g, length-append, words-length, length-drop) (omega arith)
+      by (Shut k) g = ap length (refusal-keeps k g)
+
+  -- words past those that the text's bits need stay
+  pub past-stays : (k : ℕ) → wordsFor (length s) ≤ k → getD (textWords s ws) k 0 ≡ getD ws k 0
+  past-stays k h = by (textGate s (length ws)) refl
+    where
+      by : (g : Gate) → textGate s (length ws) ≡ g → getD (textWords s ws) k 0 ≡ getD ws k 0
+      by Open g = rw (← words-open s ws g) (word-past s ws (wordsFor (length s)) k h)
+      by (Shut r) g = ap (λ l. getD l k 0) (refusal-keeps r g)
+
+  module _ (g : textGate s (length ws) ≡ Open) where
+    -- every bit of the written words is the text's
+    written : (i : ℕ) → i < 64 * wordsFor (length s) → bitAt (textWords s ws) i ≡ textBit s i
+    written i h =
+        let e : 64 * (i / 64) + i % 64 ≡ i = omega arith in
+        let l : i / 64 < wordsFor (length s) = omega arith in
+        let m : i / 64 < length (wordsOf s (wordsFor (length s))) = rw words-length l in
+        rw (← words-open s ws g, List·getD-append, words-at) (word-digit s (i / 64) (i % 64) (omega arith) ∙ ap (textBit s) e)
+
+    -- the bits are the parentheses
+    pub bits-are : (i : ℕ) → i < length s → bitAt (textWords s ws) i ≡ textBit s i
+    bits-are i h = written i (omega arith)
+
+    -- the bits past them, to the end of the last word that they need, are 0
+    pub unused-zero : (i : ℕ) → length s ≤ i → i < 64 * wordsFor (length s) → bitAt (textWords s ws) i ≡ 0
+    unused-zero i l h = written i h ∙ sym (bit-past s i l)

@@ -1,0 +1,62 @@
+-- `text::read_text` meets its contract: a shut gate is the refusal and keeps the words, an open one writes them. Assumes nothing.
+use mathlib.Core.Path.{_≡_, sym, _∙_}
+use native.Mathlib.Omega.{arith}
+use borrow.Author.Needs.{needs}
+use lib.ListN.{length}
+use Rattle.row.specs.declared.gate.Gate.{Gate}
+use Rattle.row.specs.declared.gate.Gate.the-variants.{Open, Shut}
+use Rattle.text.specs.Text.{textGate}
+use Rattle.text.proofs.Text.{text-fits, words-open, words-shut}
+use Rattle.text.proofs.read_text.Statement.{statement}
+use Rattle.text.proofs.read_text.Tie as tie
+
+-- what the tests say
+abbrev gate : tie.After-admit-text → Gate
+gate c = let a = c .before .before .before .args in textGate (a .text .now) (length (a .words .now))
+
+-- in the arm that writes, they are passed
+passed : (c : tie.After-enum-told) → gate (c .before .before) ≡ Open
+passed c = sym (c .before .before .admit-text .ensures) ∙ c .enum-told .given .1
+
+admit-text-requires : tie.Need-admit-text-requires
+admit-text-requires c κs = search needs
+
+enum-known-k : tie.Need-enum-known-k
+enum-known-k c = search needs
+
+returns : tie.Need-returns
+returns c =
+    let b = c .before .before .before in
+    let g : gate b ≡ Shut (c .before .k .given .0 .0) = sym (b .admit-text .ensures) ∙ c .before .k .given .1 in
+    (simp g, words-shut _ _ _ g)
+
+enum-told : tie.Need-enum-told
+enum-told c = search needs
+
+words-for-requires : tie.Need-words-for-requires
+words-for-requires c κs = omega (arith, text-fits _ _ (passed (c .before)))
+
+write-words-requires : tie.Need-write-words-requires
+write-words-requires c κs = omega (arith, text-fits _ _ (passed (c .before .before)))
+
+same-length : tie.Need-same-length
+same-length c = search needs
+
+returns-2 : tie.Need-returns-2
+returns-2 c =
+    let b = c .before .before .before in
+    let g = passed (b .before .before) in
+    (simp g, rw (b .words-for .ensures) at (c .before .before .write-words .ensures) ∙ words-open _ _ g)
+
+pub read-text-spec : {M : Type 1} → statement M
+read-text-spec =
+    tie.close
+    (tie.spec
+    admit-text-requires
+    enum-known-k
+    enum-told
+    words-for-requires
+    write-words-requires
+    returns
+    same-length
+    returns-2)

@@ -1,0 +1,68 @@
+-- `text::write_words` meets its contract. The loop's invariant: words 0 to k - 1 are written, and those from k on are as they came.
+-- The measure is the words left to write. Assumes nothing.
+use mathlib.Core.Path.{_≡_, refl}
+use mathlib.Core.List.{_++_}
+use Prim.Native.Nat.{_-_, _≤_}
+use native.Mathlib.Omega.{arith}
+use borrow.Author.Needs.{needs}
+use lib.ListN.{length, drop, length-set}
+use Rattle.text.specs.Text.{wordsOf}
+use Rattle.text.proofs.Text.{words-step}
+use Rattle.text.proofs.write_words.Statement.{statement}
+use Rattle.text.proofs.write_words.Tie as tie
+
+abbrev Inv-loop : tie.InvT-loop
+Inv-loop text words₀ need k₀ words k = (k ≤ need) × (length words ≡ length words₀) × (words ≡ wordsOf text k ++ drop k words₀)
+
+abbrev μ-loop : tie.MeasureT-loop
+μ-loop text words₀ need k₀ words k = need - k
+
+loop-holds : tie.Need-loop-holds Inv-loop μ-loop
+unfolding wordsOf
+loop-holds c = (search needs, refl, refl)
+
+word-of-requires : tie.Need-word-of-requires Inv-loop μ-loop
+word-of-requires c κs = search needs
+
+mul-words : tie.Need-mul-words Inv-loop μ-loop
+mul-words c = search needs
+
+slice-write-words : tie.Need-slice-write-words Inv-loop μ-loop
+slice-write-words c = search needs
+
+add-k : tie.Need-add-k Inv-loop μ-loop
+add-k c = search needs
+
+loop-less : tie.Need-loop-less Inv-loop μ-loop
+loop-less c = search needs
+
+loop-again : tie.Need-loop-again Inv-loop μ-loop
+loop-again c =
+    let l = c .before .before in
+    let a = l .before .before .before .args in
+    (search needs, simp length-set (search needs), rw (l .loop .inv .2, c .word-of .ensures) (words-step (a .text .now) (a .words .now) (l .loop .k) (omega arith)))
+
+same-length : tie.Need-same-length Inv-loop μ-loop
+same-length c = search needs
+
+returns : tie.Need-returns Inv-loop μ-loop
+returns c =
+    let l = c .before in
+    let e : l .loop .k ≡ l .before .before .before .args .need = omega arith in
+    rw e at (l .loop .inv .2)
+
+pub write-words-spec : {M : Type 1} → statement M
+write-words-spec =
+    tie.close
+    (tie.spec
+    Inv-loop
+    μ-loop
+    loop-holds
+    word-of-requires
+    mul-words
+    slice-write-words
+    add-k
+    loop-less
+    loop-again
+    same-length
+    returns)

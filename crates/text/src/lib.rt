@@ -1,0 +1,99 @@
+// The reader of parenthesis text: each byte `(` is an open bit, each `)` a closing one.
+//
+// It tests the whole text before it writes a word: refusal 2 for too many bytes, 6 for a byte that is no parenthesis, then
+// 3 for too few words. A text that is read fills the words that its bits need, unused bits 0; words past them stay.
+ghost use mathlib.Core.Path.{_≡_};
+ghost use mathlib.Core.List.{_++_};
+ghost use Prim.Native.Nat.{_*_, _≤_, _<_};
+ghost use lib.ListN.{length, drop};
+ghost use Rattle.row.specs.Answer.{at, paperRead};
+ghost use Rattle.row.specs.Gates.{wordsFor, through};
+ghost use Rattle.text.specs.Text.{isParenthesis, allParentheses, textBit, wordOf, wordsOf, textGate, textWords};
+use row::Gate;
+use row::Read;
+use row::Refusal;
+
+fn is_parenthesis(b: u8) -> bool
+    ensures { λ r. ⌜ r ≡ isParenthesis b ⌝ }
+{
+    b == b'(' || b == b')'
+}
+
+fn all_parentheses(text: &[u8]) -> bool
+    ensures { λ r. ⌜ r ≡ allParentheses (now (text .entry)) ⌝ }
+{
+    let mut i = 0;
+    while i < text.len() {
+        if !is_parenthesis(text[i]) {
+            return false;
+        }
+        i += 1;
+    }
+    true
+}
+
+// 1 where byte i opens; 0 where it closes, and past the text's end.
+fn text_bit(text: &[u8], i: usize) -> u64
+    ensures { λ r. ⌜ r ≡ textBit (now (text .entry)) i ⌝ }
+{
+    if i < text.len() {
+        if text[i] == b'(' {
+            return 1;
+        }
+    }
+    0
+}
+
+// The 64 bits from 64 k on, from the last to the first: each doubles what stands above it.
+fn word_of(text: &[u8], k: usize) -> u64
+    requires { ⌜ k ≤ 67108864 ⌝ }
+    ensures { λ r. ⌜ r ≡ wordOf (now (text .entry)) k ⌝ }
+{
+    let mut w: u64 = 0;
+    let mut j: usize = 64;
+    while 0 < j {
+        j -= 1;
+        w = text_bit(text, 64 * k + j) + 2 * w;
+    }
+    w
+}
+
+fn write_words(text: &[u8], words: &mut [u64], need: usize)
+    requires { ⌜ (need ≤ 67108864) × (need ≤ length (now words)) ⌝ }
+    ensures { λ r. ⌜ now (words .exit) ≡ wordsOf (now (text .entry)) need ++ drop need (now (words .entry)) ⌝ }
+{
+    let mut k: usize = 0;
+    while k < need {
+        words[k] = word_of(text, k);
+        k += 1;
+    }
+}
+
+// Refusals 2, 6 and 3, for a text that is to fill so many words.
+fn admit_text(text: &[u8], words: usize) -> Gate
+    ensures { λ g. ⌜ g ≡ textGate (now (text .entry)) words ⌝ }
+{
+    let n = text.len();
+    if 4294967296 < n {
+        return Gate::Shut(Refusal::TooManyBits);
+    }
+    if !all_parentheses(text) {
+        return Gate::Shut(Refusal::NotAParenthesis);
+    }
+    row::admit_row(words, n)
+}
+
+// The bits of a text, put into words: how many there are, or the refusal.
+pub fn read_text(text: &[u8], words: &mut [u64]) -> Read
+    ensures { λ a. ⌜ paperRead a ≡ through (textGate (now (text .entry)) (length (now (words .entry)))) (at (length (now (text .entry)))) ⌝ }
+    ensures { λ a. ⌜ now (words .exit) ≡ textWords (now (text .entry)) (now (words .entry)) ⌝ }
+{
+    match admit_text(text, words.len()) {
+        Gate::Shut(k) => Read::Refused(k),
+        Gate::Open => {
+            let n = text.len();
+            write_words(text, words, row::words_for(n));
+            Read::Bits(n)
+        }
+    }
+}
