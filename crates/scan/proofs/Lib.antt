@@ -1,0 +1,4 @@
+pub mod Pieces
+pub mod Totals
+pub mod Single
+pub mod Decided
