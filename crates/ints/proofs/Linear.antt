@@ -1,15 +1,21 @@
--- Linear facts on ℤ for `omega`: an integer z is `up z - dn z`, of two naturals.
+-- Linear facts on ℤ for `omega`, which reads naturals alone: an integer z is `up z - dn z`, of two naturals.
 -- Both are `abbrev`, so that at `pos n` and `negsuc n`, literals among them, they compute.
+--   plus, minus, diff: an entry of `omega`'s list for a term a + b, a - b, pos a - pos b
+--   plus-size, minus-size: how large a sum and a difference can be
+--   of-≡, of-≤, of-<, leZ-true, leZ-false, ltZ-true, ltZ-false, never-true, never-false: what a hypothesis says
+--   to-≡, to-≤, to-<, to-fits: what a goal asks
+--   back, bits-≡: what the machine reads back from a signed number's bits, and what equal bits say
+--   zlin: all the rules
 -- Assumes nothing.
 use mathlib.Core.Path.{_≡_, refl, sym, ap, _∙_, subst}
 use mathlib.Core.Bool.{Bool, true, false, not, cond}
 use Prim.Native.Nat.{ℕ, zero, suc, _+_, _-_, _*_, _≤_, _<_, _^_}
 use native.Mathlib.Omega.{arith}
-use lib.Dec.{T, eqb, eqb→eq, ltb, leb, ltb→lt, nltb→le, leb→le, le→leb, nleb→lt, lt→ltb}
-use lib.IntN.{ℤ, pos, negsuc, negℤ, subℕ, _+ℤ_, _-ℤ_, natAbs}
-use lib.Signed.{leZ, ltZ, mag, nonNeg, _≤ℤ_, _<ℤ_}
+use lib.Dec.{T, ltb, leb, ltb→lt, nltb→le, leb→le, le→leb, nleb→lt, lt→ltb}
+use lib.IntN.{ℤ, pos, negsuc, negℤ, subℕ, _+ℤ_, _-ℤ_}
+use lib.Signed.{leZ, ltZ, _≤ℤ_, _<ℤ_}
 use mir.Syntax.{w64}
-use mir.Val.{SFits, Fits, toZ, ofZ}
+use mir.Val.{SFits, toZ, ofZ}
 use mir.ValLaws.{toZ-ofZ}
 use Rattle.ints.specs.Sides.{up, dn, size}
 
@@ -33,12 +39,12 @@ plus (pos a) (negsuc b) = omega (arith, sub-ud a (suc b))
 plus (negsuc a) (pos b) = omega (arith, sub-ud b (suc a))
 plus (negsuc a) (negsuc b) = omega arith
 
-pub up-neg : (a : ℤ) → up (negℤ a) ≡ dn a
+up-neg : (a : ℤ) → up (negℤ a) ≡ dn a
 up-neg (pos zero) = refl
 up-neg (pos (suc n)) = refl
 up-neg (negsuc n) = refl
 
-pub dn-neg : (a : ℤ) → dn (negℤ a) ≡ up a
+dn-neg : (a : ℤ) → dn (negℤ a) ≡ up a
 dn-neg (pos zero) = refl
 dn-neg (pos (suc n)) = refl
 dn-neg (negsuc n) = refl
@@ -124,56 +130,18 @@ ltZ-false (negsuc a) (pos b) e = absurd (subst T e tt)
 ltZ-false (negsuc a) (negsuc b) e = let h = nltb→le b a (subst (λ (x : Bool). T (not x)) (sym e) tt) in omega arith
 
 -- ---- fit
-pub up-fits : {z : ℤ} → SFits w64 z → up z < 2 ^ 63
-up-fits {z = pos n} h = h .sfits
-up-fits {z = negsuc n} h = omega arith
-
-pub dn-fits : {z : ℤ} → SFits w64 z → dn z ≤ 2 ^ 63
-dn-fits {z = pos n} h = omega arith
-dn-fits {z = negsuc n} h = h .sfits
-
 -- one statement, so that it is a rule for a goal: at z ≥ 0 the second difference is 0, and below it the first
 pub to-fits : {z : ℤ} → (up z - dn z) + (dn z - suc (up z)) < 2 ^ 63 → SFits w64 z
 to-fits {z = pos n} h = record { sfits = omega arith }
 to-fits {z = negsuc n} h = record { sfits = omega arith }
 
 -- what the machine reads back from a signed number's bits
-pub up-back : {z : ℤ} → SFits w64 z → up (toZ w64 (ofZ w64 z)) ≡ up z
-up-back {z} h = ap up (toZ-ofZ w64 z h)
-
-pub dn-back : {z : ℤ} → SFits w64 z → dn (toZ w64 (ofZ w64 z)) ≡ dn z
-dn-back {z} h = ap dn (toZ-ofZ w64 z h)
-
 pub back : {z : ℤ} → SFits w64 z → up (toZ w64 (ofZ w64 z)) + dn z ≡ up z + dn (toZ w64 (ofZ w64 z))
 back {z} h = of-≡ (toZ-ofZ w64 z h)
-
--- a local whose bits are z's
-pub landed : {b : ℕ} {z : ℤ} → b ≡ ofZ w64 z → SFits w64 z → toZ w64 b ≡ z
-landed {b} {z} e f = ap (toZ w64) e ∙ toZ-ofZ w64 z f
 
 -- `==` of two signed numbers tests their bits
 pub bits-≡ : {a b : ℤ} → SFits w64 a → SFits w64 b → ofZ w64 a ≡ ofZ w64 b → a ≡ b
 bits-≡ {a} {b} f g e = sym (toZ-ofZ w64 a f) ∙ ap (toZ w64) e ∙ toZ-ofZ w64 b g
-
-pub eqb-bits : {a b : ℤ} → SFits w64 a → SFits w64 b → eqb (ofZ w64 a) (ofZ w64 b) ≡ true → a ≡ b
-eqb-bits {a} {b} f g e = bits-≡ f g (eqb→eq (ofZ w64 a) (ofZ w64 b) (subst T (sym e) tt))
-
--- ---- casts: `x as usize` asks these two of a signed x
-pub to-nonNeg : (z : ℤ) → dn z ≤ up z → T (nonNeg z)
-to-nonNeg (pos n) h = tt
-to-nonNeg (negsuc n) h = omega arith
-
-pub natAbs-ud : (z : ℤ) → natAbs z ≡ up z + dn z
-natAbs-ud (pos n) = omega arith
-natAbs-ud (negsuc n) = omega arith
-
-pub to-abs-fits : (z : ℤ) → (up z - dn z) + (dn z - up z) < 2 ^ 64 → Fits w64 (natAbs z)
-to-abs-fits (pos n) h = record { fits = omega arith }
-to-abs-fits (negsuc n) h = record { fits = omega arith }
-
-pub of-nonNeg : (z : ℤ) → T (nonNeg z) → dn z ≡ 0
-of-nonNeg (pos n) h = refl
-of-nonNeg (negsuc n) h = absurd h
 
 -- a flag that was answered the other way
 pub never-true : false ≡ true → ⊥
@@ -183,4 +151,4 @@ pub never-false : true ≡ false → ⊥
 never-false e = subst T e tt
 
 -- the whole list: `omega zlin`, or `omega (zlin, plus a b)` with an entry for each compound term
-pub ruleset zlin = (arith, of-≡, of-≤, of-<, leZ-true, leZ-false, ltZ-true, ltZ-false, back, to-≡, to-≤, to-<, to-fits, to-nonNeg, to-abs-fits, of-nonNeg, never-true, never-false)
+pub ruleset zlin = (arith, of-≡, of-≤, of-<, leZ-true, leZ-false, ltZ-true, ltZ-false, back, to-≡, to-≤, to-<, to-fits, never-true, never-false)

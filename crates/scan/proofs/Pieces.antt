@@ -26,9 +26,9 @@ use Rattle.row.proofs.Digits.{word-bits, byte-of}
 use Rattle.row.proofs.Excess.{excess-ext, excess-size}
 use Rattle.stretch.specs.declared.bits.Scanned.{Scanned}
 use Rattle.stretch.specs.declared.bits.Scanned.the-variants.{Hit, Left}
-use Rattle.stretch.specs.Scan.{place, scan}
+use Rattle.stretch.specs.Scan.{place, passed, scan}
 use Rattle.stretch.proofs.Parts.{onward, thenAt, scan-split, moved, scan-shift, scan-size}
-use Rattle.stretch.proofs.Meets.{passed, scan-nearest}
+use Rattle.stretch.proofs.Meets.{scan-nearest}
 use Rattle.stretch.proofs.Covers.{skip-far}
 use Rattle.stretch.proofs.Steps.{scan-end}
 use Rattle.scan.specs.Parts.{InWord}

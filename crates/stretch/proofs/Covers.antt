@@ -21,9 +21,9 @@ use Rattle.stretch.specs.declared.numbers.Numbers.{Numbers}
 use Rattle.stretch.specs.declared.bits.Scanned.{Scanned}
 use Rattle.stretch.specs.declared.bits.Scanned.the-variants.{Hit, Left}
 use Rattle.stretch.specs.Numbers.{run, none, numbersOf, holdsFor, holdsBack}
-use Rattle.stretch.specs.Scan.{place, rest, less, scan}
+use Rattle.stretch.specs.Scan.{place, rest, passed, less, scan}
 use Rattle.stretch.proofs.Full.{Full, end-over, end-under, numbers-full}
-use Rattle.stretch.proofs.Meets.{met, passed, scan-left, scan-none}
+use Rattle.stretch.proofs.Meets.{met, scan-left, scan-none}
 
 -- ---- the tests
 pub holds-in : (x : Numbers) (r : ℤ) → x .least ≤ℤ r → r ≤ℤ x .greatest → holdsFor x r ≡ true

@@ -1,5 +1,5 @@
 -- What a scan finds, for either way: the nearest position at which the excess is met; or none, and then what is left.
---   met, found, scan-nearest: the position; passed, scan-left: what is left
+--   met, found, scan-nearest: the position; scan-left: what is left
 --   scan-none: no position; left-some: what a scan back leaves is never 0
 -- Assumes nothing.
 use mathlib.Core.Path.{_≡_, refl, sym, ap, _∙_, subst}
@@ -21,7 +21,7 @@ use Rattle.row.proofs.Excess.{excess-add}
 use Rattle.row.proofs.Nearest.{Nearest, Within}
 use Rattle.stretch.specs.declared.bits.Scanned.{Scanned}
 use Rattle.stretch.specs.declared.bits.Scanned.the-variants.{Hit, Left}
-use Rattle.stretch.specs.Scan.{place, rest, less, scan}
+use Rattle.stretch.specs.Scan.{place, rest, passed, less, scan}
 use Rattle.stretch.proofs.Parts.{thenAt, then-rest}
 
 -- the excess that a position is judged by: forward the one after it, backward the one before it
@@ -33,11 +33,6 @@ met backward e k = e k
 abbrev pub found : Scanned → Answer
 found (Hit j) = at j
 found (Left q) = nothing
-
--- what is left of r once bits of total t are passed
-abbrev pub passed : Way → ℤ → ℤ → ℤ
-passed forward r t = r -ℤ t
-passed backward r t = r +ℤ t
 
 module _ (f : ℕ → ℕ) (v : ℤ) where
   abbrev Meets : Way → ℕ → Type 0

@@ -19,10 +19,14 @@ abbrev pub rest : Way → ℕ → ℕ
 rest forward j = suc j
 rest backward j = j
 
--- what is left of r once the bit b is read: forward it has been passed, backward it is taken back
+-- what is left of r once bits of total t are passed
+abbrev pub passed : Way → ℤ → ℤ → ℤ
+passed forward r t = r -ℤ t
+passed backward r t = r +ℤ t
+
+-- what is left of r once the bit b is passed
 abbrev pub less : Way → ℤ → ℕ → ℤ
-less forward r b = r -ℤ sign b
-less backward r b = r +ℤ sign b
+less w r b = passed w r (sign b)
 
 -- the c bits of f from j on: the place at which nothing is left of r, or what is left after them
 unfoldable pub scan : Way → (ℕ → ℕ) → ℕ → ℕ → ℤ → Scanned
