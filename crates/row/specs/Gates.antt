@@ -31,3 +31,8 @@ through (Shut k) a = refused (numberOf k)
 abbrev pub andThen : Gate → Gate → Gate
 andThen Open h = h
 andThen (Shut k) h = Shut k
+
+-- what a call leaves: the new where the tests are passed, the old where it refuses
+abbrev pub kept : {A : Type 0} → Gate → A → A → A
+kept Open new old = new
+kept (Shut k) new old = old

@@ -57,7 +57,7 @@ fn word_bwd(t: &Lookup, word: u64, from: usize, to: usize, r: i64) -> Scanned
 fn words_bwd(t: &Lookup, words: &[u64], from: usize, to: usize, r: i64) -> Scanned
     requires { ⌜ IsTable (now t) ⌝ }
     requires { ⌜ InRow (8 * length (now words)) from to 536870912 ⌝ }
-    requires { ⌜ size r ≤ 4611686022722355264 ⌝ }
+    requires { ⌜ size r + 4294967808 < 9223372036854775808 ⌝ }
     ensures { λ a. ⌜ a ≡ scan backward (bitAt (now (words .entry))) (8 * (to - from)) (8 * from) r ⌝ }
 {
     let mut k = to;
@@ -82,7 +82,7 @@ fn words_bwd(t: &Lookup, words: &[u64], from: usize, to: usize, r: i64) -> Scann
 pub fn bwd_search_block(t: &Lookup, words: &[u64], from: usize, to: usize, r: i64) -> Scanned
     requires { ⌜ IsTable (now t) ⌝ }
     requires { ⌜ InRow (64 * length (now words)) from to 4294967296 ⌝ }
-    requires { ⌜ size r ≤ 4611686018427387904 ⌝ }
+    requires { ⌜ size r + 4294968320 < 9223372036854775808 ⌝ }
     ensures { λ a. ⌜ a ≡ scan backward (bitAt (now (words .entry))) (to - from) from r ⌝ }
 {
     let a = (from + 7) / 8;

@@ -58,7 +58,7 @@ fn word_fwd(t: &Lookup, word: u64, from: usize, to: usize, r: i64) -> Scanned
 fn words_fwd(t: &Lookup, words: &[u64], from: usize, to: usize, r: i64) -> Scanned
     requires { ⌜ IsTable (now t) ⌝ }
     requires { ⌜ InRow (8 * length (now words)) from to 536870912 ⌝ }
-    requires { ⌜ size r ≤ 4611686022722355264 ⌝ }
+    requires { ⌜ size r + 4294967808 < 9223372036854775808 ⌝ }
     ensures { λ a. ⌜ a ≡ scan forward (bitAt (now (words .entry))) (8 * (to - from)) (8 * from) r ⌝ }
 {
     let mut k = from;
@@ -83,7 +83,7 @@ fn words_fwd(t: &Lookup, words: &[u64], from: usize, to: usize, r: i64) -> Scann
 pub fn fwd_search_block(t: &Lookup, words: &[u64], from: usize, to: usize, r: i64) -> Scanned
     requires { ⌜ IsTable (now t) ⌝ }
     requires { ⌜ InRow (64 * length (now words)) from to 4294967296 ⌝ }
-    requires { ⌜ size r ≤ 4611686018427387904 ⌝ }
+    requires { ⌜ size r + 4294968320 < 9223372036854775808 ⌝ }
     ensures { λ a. ⌜ a ≡ scan forward (bitAt (now (words .entry))) (to - from) from r ⌝ }
 {
     let a = (from + 7) / 8;

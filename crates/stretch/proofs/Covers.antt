@@ -1,8 +1,10 @@
 -- What a stretch's numbers tell a scan: bits whose numbers do not hold what is looked for are passed over at once.
---   numbers-total: the total is the excess of the bits; holds-in, holds-low, holds-top: what the test says
+--   numbers-total: the total is the excess of the bits; holds-in, holds-low, holds-top, back-cases: what the test says
 --   skip-forward, skip-backward: passed over by their numbers; skip-far: passed over because r is further than the bits go
+--   scan-some: a position that meets r is found; hold-forward, hold-backward: so one is, where the numbers hold r
 -- Assumes nothing.
-use mathlib.Core.Path.{_≡_, refl, sym, ap, _∙_, subst}
+use mathlib.Core.Path.{_≡_, refl, sym, ap, _∙_}
+use mathlib.Core.Logic.{_⊎_, inl, inr, ⊎-elim}
 use mathlib.Core.Bool.{Bool, true, false, cond, _&&_, _||_, true≢false}
 use Prim.Native.Nat.{ℕ, zero, suc, _+_, _-_, _≤_, _<_}
 use native.Mathlib.Omega.{arith}
@@ -15,20 +17,30 @@ use Rattle.ints.proofs.Linear.{plus, minus, plus-size, minus-size}
 use Rattle.ints.proofs.Shapes.{zsum}
 use Rattle.ints.proofs.Order.{eqZ-true, eqZ-yes, le-test}
 use Rattle.row.specs.Excess.{sign, excess}
-use Rattle.row.specs.Way.{Way, forward, backward}
+use Rattle.row.specs.Way.{Way, forward, backward, Before}
+use Rattle.row.proofs.Bools.{and-left, and-right}
 use Rattle.row.proofs.Excess.{sign-size}
+use Rattle.row.proofs.Nearest.{Nearest, Within}
 use Rattle.stretch.specs.declared.numbers.Numbers.{Numbers}
 use Rattle.stretch.specs.declared.bits.Scanned.{Scanned}
 use Rattle.stretch.specs.declared.bits.Scanned.the-variants.{Hit, Left}
 use Rattle.stretch.specs.Numbers.{run, none, numbersOf, holdsFor, holdsBack}
 use Rattle.stretch.specs.Scan.{place, rest, passed, less, scan}
 use Rattle.stretch.proofs.Full.{Full, end-over, end-under, numbers-full}
-use Rattle.stretch.proofs.Meets.{met, scan-left, scan-none}
+use Rattle.stretch.proofs.Meets.{met, found, scan-nearest, scan-left, scan-none}
 
 -- ---- the tests
 pub holds-in : (x : Numbers) (r : ℤ) → x .least ≤ℤ r → r ≤ℤ x .greatest → holdsFor x r ≡ true
 unfolding holdsFor
 holds-in x r h k = rw (le-test h, le-test k)
+
+pub holds-low : (x : Numbers) (r : ℤ) → holdsFor x r ≡ true → x .least ≤ℤ r
+unfolding holdsFor
+holds-low x r h = let t = and-left (leZ (x .least) r) (leZ r (x .greatest)) h in omega zsum
+
+pub holds-top : (x : Numbers) (r : ℤ) → holdsFor x r ≡ true → r ≤ℤ x .greatest
+unfolding holdsFor
+holds-top x r h = let t = and-right (leZ (x .least) r) (leZ r (x .greatest)) h in omega zsum
 
 back-in : (x : Numbers) (s : ℤ) → holdsFor x s ≡ true → holdsBack x s ≡ true
 unfolding holdsBack
@@ -38,16 +50,33 @@ back-in x s h = go (eqZ s (pos 0))
     go true = refl
     go false = h
 
-back-zero : (x : Numbers) (s : ℤ) → s ≡ pos 0 → holdsBack x s ≡ true
+pub back-zero : (x : Numbers) (s : ℤ) → s ≡ pos 0 → holdsBack x s ≡ true
 unfolding holdsBack
 back-zero x s z = rw (eqZ-yes s (pos 0) z)
+
+pub back-cases : (x : Numbers) (s : ℤ) → holdsBack x s ≡ true → (s ≡ pos 0) ⊎ (holdsFor x s ≡ true)
+unfolding holdsBack
+back-cases x s h = go (eqZ s (pos 0)) refl h
+  where
+    go : (t : Bool) → eqZ s (pos 0) ≡ t → (t || holdsFor x s) ≡ true → (s ≡ pos 0) ⊎ (holdsFor x s ≡ true)
+    go true e h = inl (eqZ-true s (pos 0) e)
+    go false e h = inr h
 
 pub numbers-total : (f : ℕ → ℕ) (a c : ℕ) → numbersOf f a c .total ≡ excess (λ k. f (a + k)) c
 unfolding numbersOf none run excess
 numbers-total f a zero = refl
 numbers-total f a (suc c) = refl
 
--- ---- bits passed over by their numbers
+pub scan-some : (w : Way) (f : ℕ → ℕ) (c a : ℕ) (r : ℤ) (k : ℕ) → a ≤ k → k < a + c → met w (excess f) k ≡ excess f (place w c a) +ℤ r
+    → (j : ℕ) × (scan w f c a r ≡ Hit j)
+scan-some w f c a r k p q m = go (scan w f c a r) refl (scan-nearest f (excess f (place w c a) +ℤ r) w c a r refl)
+  where
+    go : (x : Scanned) → scan w f c a r ≡ x → Nearest (Before w) (Within (λ k. met w (excess f) k ≡ excess f (place w c a) +ℤ r) a (a + c)) (found x)
+        → (j : ℕ) × (scan w f c a r ≡ Hit j)
+    go (Hit j) e g = (j, e)
+    go (Left z) e g = absurd (g k (p, q, m))
+
+-- ---- bits passed over, or not, by their numbers
 module _ (f : ℕ → ℕ) (c a : ℕ) (some : 0 < c) where
   abbrev x : Numbers
   x = numbersOf f a c
@@ -76,6 +105,29 @@ module _ (f : ℕ → ℕ) (c a : ℕ) (some : 0 < c) where
             back-in x (r +ℤ x .total) (holds-in x (r +ℤ x .total) (omega (zsum, s k m, plus r (x .total))) (omega (zsum, s k m, plus r (x .total)))))
         | no l ↦ (let w : k ≡ a = omega arith in let y : excess f a ≡ excess f a +ℤ (r +ℤ x .total) = rw w at (s k m) in back-zero x (r +ℤ x .total) (omega (zsum, y, plus r (x .total))))
       ]
+
+  pub hold-forward : (r : ℤ) → holdsFor x r ≡ true → (j : ℕ) × (scan forward f c a r ≡ Hit j)
+  hold-forward r h =
+      let k = bits .taken (excess f a +ℤ r) (omega (zsum, holds-low x r h)) (omega (zsum, holds-top x r h)) in
+      scan-some forward f c a r (k .0) (k .1) (k .2) (k .3)
+
+  -- the excess after the last bit is where the scan stands, so no position is judged by it
+  pub hold-backward : (r : ℤ) → (r ≡ pos 0 → ⊥) → holdsBack x (r +ℤ x .total) ≡ true → (j : ℕ) × (scan backward f c a r ≡ Hit j)
+  hold-backward r n h =
+      ⊎-elim (λ z. scan-some backward f c a r a (omega arith) (omega arith) (omega (zsum, bits .total, plus r (x .total)))) inner (back-cases x s h)
+    where
+      s : ℤ
+      s = r +ℤ x .total
+
+      inner : holdsFor x s ≡ true → (j : ℕ) × (scan backward f c a r ≡ Hit j)
+      inner i =
+          let k = bits .taken (excess f a +ℤ s) (omega (zsum, holds-low x s i, plus r (x .total))) (omega (zsum, holds-top x s i, plus r (x .total))) in
+          let m : excess f (suc (k .0)) ≡ excess f (a + c) +ℤ r = omega (zsum, k .3, bits .total, plus r (x .total)) in
+          elim (decLt (suc (k .0)) (a + c)) [
+            | yes l ↦ scan-some backward f c a r (suc (k .0)) (omega (arith, k .1)) l m
+            | no l ↦ (let e : suc (k .0) ≡ a + c = omega (arith, k .2) in
+                let y : excess f (a + c) ≡ excess f (a + c) +ℤ r = rw e at m in absurd (n (omega (zsum, y))))
+          ]
 
 -- ---- bits passed over because r is too far to be met
 less-far : (w : Way) (r : ℤ) (b : ℕ) → size r ≤ size (less w r b) + 1

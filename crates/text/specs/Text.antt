@@ -7,8 +7,8 @@ use lib.Dec.{leb, eqb}
 use lib.ListN.{length, getD, drop}
 use Rattle.row.specs.declared.refusal.Refusal.the-variants.{TooManyBits, NotAParenthesis}
 use Rattle.row.specs.declared.gate.Gate.{Gate}
-use Rattle.row.specs.declared.gate.Gate.the-variants.{Open, Shut}
-use Rattle.row.specs.Gates.{wordsFor, rowGate}
+use Rattle.row.specs.declared.gate.Gate.the-variants.{Shut}
+use Rattle.row.specs.Gates.{wordsFor, rowGate, kept}
 
 -- ( is the byte 40, ) the byte 41
 abbrev pub isParenthesis : ℕ → Bool
@@ -42,9 +42,5 @@ unfoldable pub textGate : List ℕ → ℕ → Gate
 textGate s w = cond (leb (length s) 4294967296) (cond (allParentheses s) (rowGate w (length s)) (Shut NotAParenthesis)) (Shut TooManyBits)
 
 -- the words after the call: those that the text's bits need are written, those past them stay; a refusal leaves all
-abbrev pub kept : Gate → List ℕ → List ℕ → List ℕ
-kept Open new old = new
-kept (Shut k) new old = old
-
 unfoldable pub textWords : List ℕ → List ℕ → List ℕ
 textWords s ws = kept (textGate s (length ws)) (wordsOf s (wordsFor (length s)) ++ drop (wordsFor (length s)) ws) ws
