@@ -1,0 +1,67 @@
+-- `mmt::fill_leaves` meets its contract. The loop's invariant: the first b leaves are filled. The measure is how many are
+-- left. Assumes nothing.
+use mathlib.Core.Path.{_≡_, _∙_}
+use Prim.Native.Nat.{_-_, _*_, _/_, _≤_}
+use borrow.Author.Needs.{needs}
+use native.Mathlib.Omega.{arith}
+use lib.ListN.{length, length-set}
+use Rattle.mmt.specs.Layout.{width, leaves}
+use Rattle.mmt.specs.Build.{Filled}
+use Rattle.mmt.proofs.Powers.{leaves-in}
+use Rattle.mmt.proofs.Nodes.{put-length}
+use Rattle.mmt.proofs.Filled.{filled-more}
+use Rattle.mmt.proofs.builder.fill_leaves.Statement.{statement}
+use Rattle.mmt.proofs.builder.fill_leaves.Tie as tie
+
+abbrev Inv-loop : tie.InvT-loop
+Inv-loop t words n block part₀ l b₀ part b = (b ≤ l) × (length part ≡ length part₀) × Filled words n block b part
+
+abbrev μ-loop : tie.MeasureT-loop
+μ-loop t words n block part₀ l b₀ part b = l - b
+
+loop-holds : tie.Need-loop-holds Inv-loop μ-loop
+loop-holds c = (omega arith, omega arith, λ j h. absurd (omega arith))
+
+leaf-numbers-requires : tie.Need-leaf-numbers-requires Inv-loop μ-loop
+leaf-numbers-requires c κs =
+    let s = c .before .before .before .before in
+    let p = s .pre .1 .1 .0 in
+    (s .pre .0, (s .pre .1 .0, (p .0, p .1, p .2, leaves-in (s .args .n) (s .args .block) (omega arith) (c .before .before .loop .b) (omega arith))))
+
+put-node-requires : tie.Need-put-node-requires Inv-loop μ-loop
+put-node-requires c κs = omega arith
+
+add-b : tie.Need-add-b Inv-loop μ-loop
+add-b c = search needs
+
+loop-less : tie.Need-loop-less Inv-loop μ-loop
+loop-less c = search needs
+
+loop-again : tie.Need-loop-again Inv-loop μ-loop
+loop-again c =
+    let s = c .before .before .before .before .before .before .before .args in
+    let l = c .before .before .before .before .before .loop in
+    let x = c .before .before .leaf-numbers in
+    let e = c .before .put-node .ensures in
+    (omega arith, rw e (put-length (l .part) (l .b) (x .result) ∙ l .inv .1), rw e (filled-more (s .words .now) (s .n) (s .block) (l .b) (l .part) (x .result) (omega arith) (x .ensures) (l .inv .2)))
+
+same-length : tie.Need-same-length Inv-loop μ-loop
+same-length c = c .before .loop .inv .1
+
+returns : tie.Need-returns Inv-loop μ-loop
+returns c = let e : c .before .loop .b ≡ leaves (c .before .before .before .args .n) (c .before .before .before .args .block) = omega arith in rw e at (c .before .loop .inv .2)
+
+pub fill-leaves-spec : {M : Type 1} → statement M
+fill-leaves-spec =
+    tie.close
+    (tie.spec
+    Inv-loop
+    μ-loop
+    loop-holds
+    leaf-numbers-requires
+    put-node-requires
+    add-b
+    loop-less
+    loop-again
+    same-length
+    returns)

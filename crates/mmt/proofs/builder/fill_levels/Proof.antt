@@ -1,0 +1,73 @@
+-- `mmt::fill_levels` meets its contract. The loop's invariant: the nodes from k on are filled. The measure is k.
+-- Assumes nothing.
+use mathlib.Core.Path.{_≡_, _∙_}
+use Prim.Native.Nat.{_+_, _-_, _*_, _≤_}
+use borrow.Author.Needs.{needs}
+use native.Mathlib.Omega.{arith}
+use lib.ListN.{length}
+use Rattle.mmt.specs.Build.{Leveled}
+use Rattle.mmt.proofs.Filled.{leveled-start, leveled-down}
+use Rattle.mmt.proofs.builder.fill_levels.Statement.{statement}
+use Rattle.mmt.proofs.builder.fill_levels.Tie as tie
+
+abbrev Inv-loop : tie.InvT-loop
+Inv-loop t words n nodes₀ block first all k₀ nodes k = (k ≤ first) × Leveled words n block nodes₀ k nodes
+
+abbrev μ-loop : tie.MeasureT-loop
+μ-loop t words n nodes₀ block first all k₀ nodes k = k
+
+loop-holds : tie.Need-loop-holds Inv-loop μ-loop
+loop-holds c = (omega arith, leveled-start _ _ _ _ _ (c .before .pre .1 .1 .1))
+
+sub-k : tie.Need-sub-k Inv-loop μ-loop
+sub-k c = search needs
+
+wanted-requires : tie.Need-wanted-requires Inv-loop μ-loop
+wanted-requires c κs =
+    let s = c .before .before .before .before in
+    let l = c .before .before .loop in
+    let f = s .pre .1 .0 in
+    let e : (l .k - 1) + 1 ≡ l .k = omega arith in
+    (s .pre .0, (rw (l .inv .1 .same) f, ((s .pre .1 .1 .0 .0, s .pre .1 .1 .0 .1, omega arith), rw e (l .inv .1 .nodes))))
+
+put-node-requires : tie.Need-put-node-requires Inv-loop μ-loop
+put-node-requires c κs =
+    let s = c .before .before .before .before .before .before in
+    let l = c .before .before .before .before .loop in
+    let f = s .pre .1 .0 in
+    let g = l .inv .1 .same in
+    omega arith
+
+loop-less : tie.Need-loop-less Inv-loop μ-loop
+loop-less c = search needs
+
+loop-again : tie.Need-loop-again Inv-loop μ-loop
+loop-again c =
+    let s = c .before .before .before .before .before .before .before .before in
+    let a = s .args in
+    let l = c .before .before .before .before .before .before .loop in
+    let x = c .before .before .before .wanted in
+    let f = s .pre .1 .0 in
+    let e : (l .k - 1) + 1 ≡ l .k = omega arith in
+    (omega arith, rw (c .before .put-node .ensures) (leveled-down (a .words .now) (a .n) (a .block) (a .nodes .now) (l .nodes) (l .k - 1) (x .result) (rw (l .inv .1 .same) (f .nodes)) (omega arith) (x .ensures) (rw e (l .inv .1))))
+
+same-length : tie.Need-same-length Inv-loop μ-loop
+same-length c = c .before .loop .inv .1 .same
+
+returns : tie.Need-returns Inv-loop μ-loop
+returns c = let e : c .before .loop .k ≡ 0 = omega arith in rw e at (c .before .loop .inv .1)
+
+pub fill-levels-spec : {M : Type 1} → statement M
+fill-levels-spec =
+    tie.close
+    (tie.spec
+    Inv-loop
+    μ-loop
+    loop-holds
+    sub-k
+    wanted-requires
+    put-node-requires
+    loop-less
+    loop-again
+    same-length
+    returns)
