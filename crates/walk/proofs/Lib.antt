@@ -1,0 +1,10 @@
+pub mod Ways
+pub mod Steps
+pub mod Told
+pub mod Stretches
+pub mod Built
+pub mod Right
+pub mod Seen
+pub mod Asked
+pub mod Paths
+pub mod Answers
