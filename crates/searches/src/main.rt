@@ -1,0 +1,160 @@
+// What of the searches is run besides being proved: document 01's cases a to g, the empty row, a hit on a block's first bit going
+// back, a childless node met in a climb, nodes built for another block size, and each place of refusal 8. What it writes is
+// compared with the file stdout.
+use libc::STDOUT_FILENO;
+use row::Built;
+use row::Found;
+
+fn say(label: &[u8], n: u64) {
+    io::write_all(STDOUT_FILENO, label);
+    io::write_all(STDOUT_FILENO, b" ");
+    io::print_decimal(STDOUT_FILENO, n);
+    io::write_all(STDOUT_FILENO, b"\n");
+}
+
+fn title(label: &[u8]) {
+    io::write_all(STDOUT_FILENO, label);
+    io::write_all(STDOUT_FILENO, b"\n");
+}
+
+fn tell(f: Found) {
+    match f {
+        Found::At(j) => say(b"  at", j as u64),
+        Found::Nothing => {
+            io::write_all(STDOUT_FILENO, b"  nothing\n");
+        }
+        Found::Refused(k) => say(b"  refused", row::number(k)),
+    }
+}
+
+fn build(words: &[u64], n: usize, nodes: &mut [i64], block: usize) {
+    match mmt::build(words, n, nodes, block) {
+        Built::Done => {}
+        Built::Refused(k) => say(b"  build refused", row::number(k)),
+    }
+}
+
+fn fwd(words: &[u64], n: usize, nodes: &[i64], block: usize, i: usize, r: i64) {
+    tell(bp::fwd_search(words, n, nodes, block, i, r));
+}
+
+fn bwd(words: &[u64], n: usize, nodes: &[i64], block: usize, i: usize, r: i64) {
+    tell(bp::bwd_search(words, n, nodes, block, i, r));
+}
+
+// Row T, (()(())): a to d.
+fn cases_forward() {
+    title(b"cases a to g");
+    let words = [27u64; 1];
+    let mut nodes = [0i64; 6];
+    build(&words, 8, &mut nodes, 8);
+    fwd(&words, 8, &nodes, 8, 0, -1);
+    fwd(&words, 8, &nodes, 8, 0, 1);
+    fwd(&words, 8, &nodes, 8, 2, 0);
+    fwd(&words, 8, &nodes, 8, 7, -1);
+}
+
+// e to g.
+fn cases_backward() {
+    let words = [27u64; 1];
+    let mut nodes = [0i64; 6];
+    build(&words, 8, &mut nodes, 8);
+    bwd(&words, 8, &nodes, 8, 7, 0);
+    bwd(&words, 8, &nodes, 8, 4, 1);
+    tell(bp::enclose(&words, 8, &nodes, 8, 6));
+}
+
+fn empty() {
+    title(b"empty row");
+    let words = [0u64; 1];
+    let nodes = [0i64; 1];
+    fwd(&words[..0], 0, &nodes[..0], 8, 0, 0);
+    bwd(&words[..0], 0, &nodes[..0], 8, 0, 0);
+    tell(bp::close(&words[..0], 0, &nodes[..0], 8, 0));
+    tell(bp::open(&words[..0], 0, &nodes[..0], 8, 5));
+    tell(bp::enclose(&words[..0], 0, &nodes[..0], 8, 0));
+    tell(bp::close(&words[..0], 0, &nodes[..0], 12, 0));
+}
+
+// A hit on a block's first bit: in the climb, in the descent's right child and in its left one.
+fn first_bits() {
+    title(b"first bits of blocks");
+    let mut nodes = [0i64; 18];
+    let climb = [0b0101010111u64; 1];
+    build(&climb, 10, &mut nodes, 8);
+    bwd(&climb, 10, &nodes, 8, 9, -3);
+    let right = [0b000101101100000000u64; 1];
+    build(&right, 18, &mut nodes, 8);
+    bwd(&right, 18, &nodes, 8, 17, -1);
+    let left = [0b100000100111111111u64; 1];
+    build(&left, 18, &mut nodes, 8);
+    bwd(&left, 18, &nodes, 8, 17, -3);
+}
+
+// Six leaves: node 6 is childless, and a climb from the last leaves meets it as a right sibling.
+fn childless() {
+    title(b"a childless sibling");
+    let words = [0xff00ff00ff0fu64; 1];
+    let mut nodes = [0i64; 39];
+    build(&words, 48, &mut nodes, 8);
+    fwd(&words, 48, &nodes, 8, 33, -9);
+    fwd(&words, 48, &nodes, 8, 3, 4);
+    bwd(&words, 48, &nodes, 8, 47, 1);
+}
+
+// Nodes built for blocks of 24, asked with blocks of 8.
+fn other_blocks() {
+    title(b"nodes of other blocks");
+    let words = [0xff00ff00ff0fu64; 1];
+    let mut nodes = [0i64; 39];
+    build(&words, 48, &mut nodes, 24);
+    fwd(&words, 48, &nodes, 8, 0, 3);
+    fwd(&words, 48, &nodes, 8, 10, -5);
+    bwd(&words, 48, &nodes, 8, 40, 1);
+}
+
+fn put(nodes: &mut [i64], at: usize, x: i64) {
+    if at < nodes.len() {
+        nodes[at] = x;
+    }
+}
+
+// The nodes of 40 bits that open, in blocks of 8, with number `at` replaced.
+fn foreign(at: usize, x: i64, i: usize, r: i64) {
+    let words = [0xffffffffffu64; 1];
+    let mut nodes = [0i64; 36];
+    build(&words, 40, &mut nodes, 8);
+    put(&mut nodes, at, x);
+    fwd(&words, 40, &nodes, 8, i, r);
+}
+
+// Node 8, the second leaf, is the first that a climb from position 0 asks. Each of its numbers out of range; its total at the
+// edge of the range; a least that its bits do not reach; and a remainder further than all bits go, for which none is asked.
+fn foreign_in_climb() {
+    title(b"foreign nodes in a climb");
+    foreign(24, 4294967297, 0, 9);
+    foreign(25, -4294967297, 0, 9);
+    foreign(26, 4294967297, 0, 9);
+    foreign(24, 4294967296, 0, 17);
+    foreign(25, -20, 0, -3);
+    foreign(24, 4294967297, 0, 41);
+}
+
+// Neither child of node 4 holds; its first child is out of range; a child of node 6 is needed, and there is none.
+fn foreign_in_descent() {
+    title(b"foreign nodes in a descent");
+    foreign(14, 99, 0, 35);
+    foreign(27, 4294967297, 0, 20);
+    foreign(17, 7, 24, 15);
+}
+
+fn main() {
+    cases_forward();
+    cases_backward();
+    empty();
+    first_bits();
+    childless();
+    other_blocks();
+    foreign_in_climb();
+    foreign_in_descent();
+}
