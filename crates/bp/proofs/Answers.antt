@@ -1,23 +1,25 @@
 -- What a search answers, refused or not, and that over nodes as built it is the definition.
 --   when-shut: a refusal; when-forward, when-backward: the walk's answer
---   outward-past, outward-open, outward-close: how far enclose looks; outward-fits: it is an i64
+--   outward-past, outward-short, outward-open, outward-close: how far enclose looks, past the row, past the words, at an open bit and at a
+--   closing one; outward-fits: it is an i64
 -- Assumes nothing.
-use mathlib.Core.Path.{_≡_, sym, _∙_}
-use mathlib.Core.Bool.{Bool, true, false, cond}
+use mathlib.Core.Path.{_≡_, _∙_}
+use mathlib.Core.Bool.{Bool, true, false, cond, and-false}
 use mathlib.Core.List.{List}
-use Prim.Native.Nat.{ℕ, _≤_, _<_}
+use Prim.Native.Nat.{ℕ, _/_, _%_, _^_, _≤_, _<_}
+use native.Mathlib.Nat.{zero-div}
 use native.Mathlib.Omega.{arith}
 use borrow.Author.Tests.{lt-ltb, le-ltb}
-use lib.Dec.{eqb}
+use lib.Dec.{ltb, eqb}
 use lib.IntN.{ℤ, negsuc}
-use lib.ListN.{length}
+use lib.ListN.{length, List·getD-eq-default}
 use mir.Syntax.{w64}
 use mir.Val.{SFits}
 use Rattle.ints.proofs.Shapes.{zsum}
 use Rattle.row.specs.declared.refusal.Refusal.{Refusal}
 use Rattle.row.specs.declared.gate.Gate.the-variants.{Open, Shut}
 use Rattle.row.specs.Answer.{Answer, refused, numberOf}
-use Rattle.row.specs.Bits.{bitAt}
+use Rattle.row.specs.Bits.{digit, bitAt}
 use Rattle.row.specs.Search.{fwd, bwd}
 use Rattle.row.specs.Tree.{opens}
 use Rattle.row.specs.Way.{Way, forward, backward}
@@ -52,10 +54,18 @@ module _ (ws : List ℕ) (n : ℕ) (s : List ℤ) (B i : ℕ) (r : ℤ) where
       let p = f .eight in
       (walked backward a g e, λ o b. e ∙ walk-backward ws n B s (omega arith) (f .short) b i r)
 
+-- a word that is not there is read as 0
+zero-digit : (k : ℕ) → digit 0 k ≡ 0
+zero-digit k = rw (zero-div (2 ^ k))
+
 module _ (ws : List ℕ) (n i : ℕ) where
   pub outward-past : n ≤ i → negsuc 1 ≡ outward ws n i
   unfolding outward opens
   outward-past h = rw (le-ltb i n h)
+
+  pub outward-short : length ws ≤ i / 64 → negsuc 1 ≡ outward ws n i
+  unfolding outward opens
+  outward-short h = rw (List·getD-eq-default ws 0 {n = i / 64} h, zero-digit (i % 64), and-false (ltb i n))
 
   pub outward-open : i < n → eqb (bitAt ws i) 1 ≡ true → negsuc 0 ≡ outward ws n i
   unfolding outward opens

@@ -1,12 +1,8 @@
 // The two searches, and close, open and enclose, which are single searches. They take any position; refusals 1, 2, 3, 4 and 8.
 ghost use mathlib.Core.Path.{_≡_};
-ghost use mathlib.Core.Bool.{cond};
-ghost use Prim.Native.Nat.{_*_, _≤_};
 ghost use lib.IntN.{negsuc};
-ghost use lib.ListN.{length};
 ghost use Rattle.row.specs.Answer.{paperFound};
 ghost use Rattle.row.specs.Search.{fwd, bwd};
-ghost use Rattle.row.specs.Tree.{opens};
 ghost use Rattle.bp.specs.Searches.{fwdAnswer, bwdAnswer, outward, WhereBuilt};
 use row::Found;
 use row::Gate;
@@ -55,12 +51,15 @@ pub fn open(words: &[u64], n: usize, nodes: &[i64], block: usize, i: usize) -> F
     bwd_search(words, n, nodes, block, i, -1)
 }
 
-// How far out of position i its encloser opens: one level from an open bit, two from a closing one.
+// How far out of position i its encloser opens: one level from an open bit, two from any other position.
+// A bit below n that the words lack does not open; the search refuses such a row whatever it is asked.
 fn out_of(words: &[u64], n: usize, i: usize) -> i64
-    requires { ⌜ n ≤ 64 * length (now words) ⌝ }
     ensures { λ r. ⌜ r ≡ outward (now (words .entry)) n i ⌝ }
 {
     if n <= i {
+        return -2;
+    }
+    if words.len() <= i / 64 {
         return -2;
     }
     if row::opens_at(words, i) { -1 } else { -2 }
@@ -71,11 +70,5 @@ pub fn enclose(words: &[u64], n: usize, nodes: &[i64], block: usize, i: usize) -
     ensures { λ a. ⌜ paperFound a ≡ bwdAnswer (now (words .entry)) n (now (nodes .entry)) block i (outward (now (words .entry)) n i) ⌝ }
     ensures { λ a. ⌜ WhereBuilt (now (words .entry)) n (now (nodes .entry)) block (paperFound a) (bwd (now (words .entry)) n i (outward (now (words .entry)) n i)) ⌝ }
 {
-    match mmt::admit(words.len(), n, nodes.len(), block) {
-        Gate::Shut(k) => Found::Refused(k),
-        Gate::Open => {
-            let t = lookup::table();
-            walk::walk_bwd(&t, words, n, nodes, block, i, out_of(words, n, i))
-        }
-    }
+    bwd_search(words, n, nodes, block, i, out_of(words, n, i))
 }

@@ -1,4 +1,5 @@
 pub mod Layout
 pub mod Nodes
 pub mod Build
+pub mod Filling
 pub mod Check

@@ -31,8 +31,7 @@ module _ (w : Way) (m : ℕ) (s : List ℤ) where
   enough (suc f) zero h k r c p q = sym (root (suc f) h k r c (omega arith))
   enough (suc f) (suc g) h k r c p q =
       let j = (k - 1) / 2 in
-      let t = passed w r (nodeAt s (sibling w k) .total) in
-      rw (enough f g (suc h) j r c (omega arith) (omega arith), enough f g (suc h) j t (suc c) (omega arith) (omega arith))
+      rw (enough f g (suc h) j r c (omega arith) (omega arith), enough f g (suc h) j _ (suc c) (omega arith) (omega arith))
 
   -- on from the parent
   abbrev parent : ℕ → ℕ → ℤ → ℕ → Climb
@@ -50,8 +49,7 @@ module _ (w : Way) (m : ℕ) (s : List ℤ) where
   climb-step h zero r c = refl
   climb-step h (suc k) r c =
       let p = (suc k - 1) / 2 in
-      let q = passed w r (nodeAt s (sibling w (suc k)) .total) in
-      rw (add-one h, add-one c, enough p k (suc h) p r c (omega arith) (omega arith), enough p k (suc h) p q (suc c) (omega arith) (omega arith))
+      rw (add-one h, add-one c, enough p k (suc h) p r c (omega arith) (omega arith), enough p k (suc h) p _ (suc c) (omega arith) (omega arith))
 
   module _ (h k : ℕ) (r : ℤ) (c : ℕ) where
     pub climb-root : k ≡ 0 → out c ≡ climb w m s k h k r c

@@ -1,58 +1,22 @@
--- `bp::enclose` meets its contract: a shut gate is the refusal, an open one the walk's answer, by as much as `out_of` says. Assumes nothing.
-use mathlib.Core.Path.{_≡_, sym, _∙_}
-use native.Mathlib.Omega.{arith}
-use lib.ListN.{length}
+-- `bp::enclose` meets its contract: it is the one search, by as much as `out_of` says. Assumes nothing.
 use borrow.Author.Needs.{needs}
 use mir.Syntax.{w64}
 use mir.ValLaws.{toZ-ofZ}
-use Rattle.row.specs.declared.gate.Gate.{Gate}
-use Rattle.row.specs.declared.gate.Gate.the-variants.{Open}
-use Rattle.row.specs.Way.{backward}
-use Rattle.mmt.specs.Layout.{nodesGate}
-use Rattle.mmt.proofs.Admitted.{gate-fine}
-use Rattle.bp.proofs.Answers.{when-shut, when-backward, outward-fits}
+use Rattle.bp.proofs.Answers.{outward-fits}
 use Rattle.bp.proofs.search.enclose.Statement.{statement}
 use Rattle.bp.proofs.search.enclose.Tie as tie
 
--- what the tests say
-abbrev gate : tie.After-admit → Gate
-gate c = let a = c .before .before .args in nodesGate (length (a .words .now)) (a .n) (length (a .nodes .now)) (a .block)
-
--- in the arm that walks, they are passed
-passed : (c : tie.After-enum-told) → gate (c .before .before) ≡ Open
-passed c = sym (c .before .before .admit .ensures) ∙ c .enum-told .given .1
-
-admit-requires : tie.Need-admit-requires
-admit-requires c κs = search needs
-
-enum-known-k : tie.Need-enum-known-k
-enum-known-k c = search needs
-
-enum-told : tie.Need-enum-told
-enum-told c = search needs
-
-table-requires : tie.Need-table-requires
-table-requires c κs = search needs
-
 out-of-requires : tie.Need-out-of-requires
-out-of-requires c κs = gate-fine _ _ _ _ (passed (c .before .before)) .words
+out-of-requires c κs = search needs
 
-walk-bwd-requires : tie.Need-walk-bwd-requires
-walk-bwd-requires c κs = (c .before .before .table .ensures, gate-fine _ _ _ _ (passed (c .before .before .before)))
+bwd-search-requires : tie.Need-bwd-search-requires
+bwd-search-requires c κs = search needs
 
 returns : tie.Need-returns
 returns c =
-    let b = c .before .before .before in
-    when-shut _ _ _ _ _ _ backward _ (c .before .k .given .0 .0) (sym (b .admit .ensures) ∙ c .before .k .given .1)
-
-returns-2 : tie.Need-returns-2
-returns-2 c =
-    let e = c .before .before .before .before in
-    let a = e .before .before .before .before .args in
-    let v = outward-fits (a .words .now) (a .n) (a .i) in
-    when-backward _ _ _ _ _ _ _ (passed e) (rw (c .before .out-of .ensures, toZ-ofZ w64 _ v) at (c .walk-bwd .ensures))
+    let a = c .before .before .before .args in
+    let f = outward-fits (a .words .now) (a .n) (a .i) in
+    rw (c .before .out-of .ensures, toZ-ofZ w64 _ f) at (c .bwd-search .ensures)
 
 pub enclose-spec : {M : Type 1} → statement M
-enclose-spec =
-    tie.close
-    (tie.spec admit-requires enum-known-k enum-told table-requires out-of-requires walk-bwd-requires returns returns-2)
+enclose-spec = tie.close (tie.spec out-of-requires bwd-search-requires returns)

@@ -6,7 +6,7 @@ use borrow.Author.Needs.{needs}
 use native.Mathlib.Omega.{arith}
 use lib.ListN.{length, length-set}
 use Rattle.mmt.specs.Layout.{width, leaves}
-use Rattle.mmt.specs.Build.{Filled}
+use Rattle.mmt.specs.Filling.{Filled}
 use Rattle.mmt.proofs.Powers.{leaves-in}
 use Rattle.mmt.proofs.Nodes.{put-length}
 use Rattle.mmt.proofs.Filled.{filled-more}

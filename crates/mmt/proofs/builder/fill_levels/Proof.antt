@@ -5,7 +5,7 @@ use Prim.Native.Nat.{_+_, _-_, _*_, _≤_}
 use borrow.Author.Needs.{needs}
 use native.Mathlib.Omega.{arith}
 use lib.ListN.{length}
-use Rattle.mmt.specs.Build.{Leveled}
+use Rattle.mmt.specs.Filling.{Leveled}
 use Rattle.mmt.proofs.Filled.{leveled-start, leveled-down}
 use Rattle.mmt.proofs.builder.fill_levels.Statement.{statement}
 use Rattle.mmt.proofs.builder.fill_levels.Tie as tie
