@@ -1,5 +1,5 @@
 -- An entry of the table gives back the least and the greatest that were put into it.
---   entry-of: the entry of a byte; entry-small: it is below 2^16; entry-least, entry-greatest: what it gives back
+--   entry-of: the entry of a byte; entry-least, entry-greatest: what it gives back
 --   from-start: the total of bits counted from 0 on
 -- Assumes nothing.
 use mathlib.Core.Path.{_≡_, ap, _∙_}
@@ -37,10 +37,6 @@ raised z h = go (z +ℤ pos 8) (plus z (pos 8))
     go (negsuc n) e = absurd (omega arith)
 
 module _ (x : Numbers) (s : Sized 8 x) where
-  pub entry-small : encoded x < 65536
-  unfolding encoded
-  entry-small = omega (arith, raised (x .least) (s .least) .0, raised (x .greatest) (s .greatest) .0)
-
   pub entry-least : pos (encoded x / 32) -ℤ pos 8 ≡ x .least
   unfolding encoded
   entry-least =

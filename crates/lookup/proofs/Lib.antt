@@ -1,3 +1,4 @@
 pub mod Tabulate
 pub mod Entries
 pub mod Passing
+pub mod Counts

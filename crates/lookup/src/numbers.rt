@@ -9,29 +9,30 @@ ghost use Rattle.lookup.specs.Table.{IsTable};
 use crate::encoding::Lookup;
 use stretch::Numbers;
 
-// a - b, of two counts
-fn surplus(a: u32, b: u32) -> i64
-    ensures { λ r. ⌜ r ≡ pos a -ℤ pos b ⌝ }
+// What a part of an entry stands for: it was raised by 8.
+fn lowered(a: u16) -> i64
+    ensures { λ r. ⌜ r ≡ pos a -ℤ pos 8 ⌝ }
 {
-    a as i64 - b as i64
+    a as i64 - 8
 }
 
-// What a byte adds to the excess: its ones less its zeros.
+// What a byte adds to the excess: its ones less its zeros. Both are i64, and the compiler makes 2 * ones - 8 of it; it does
+// not where a difference of u32 is widened.
 fn byte_total(b: u8) -> i64
     ensures { λ r. ⌜ r ≡ excess (digit b) 8 ⌝ }
 {
-    let ones = u8::count_ones(b);
+    let ones = u8::count_ones(b) as i64;
     let zeros = 8 - ones;
-    surplus(ones, zeros)
+    ones - zeros
 }
 
 // What a word adds to the excess: its ones less its zeros.
 pub fn word_total(w: u64) -> i64
     ensures { λ r. ⌜ r ≡ excess (digit w) 64 ⌝ }
 {
-    let ones = u64::count_ones(w);
+    let ones = u64::count_ones(w) as i64;
     let zeros = 64 - ones;
-    surplus(ones, zeros)
+    ones - zeros
 }
 
 // The numbers of the byte b.
@@ -42,7 +43,7 @@ pub fn byte_numbers(t: &Lookup, b: u8) -> Numbers
     let e = t[b as usize];
     Numbers {
         total: byte_total(b),
-        least: surplus((e / 32) as u32, 8),
-        greatest: surplus((e % 32) as u32, 8),
+        least: lowered(e / 32),
+        greatest: lowered(e % 32),
     }
 }

@@ -1,3 +1,4 @@
+pub mod Shifted
 pub mod Pieces
 pub mod Totals
 pub mod Single

@@ -12,18 +12,20 @@ use crate::edge::edge_bwd;
 use lookup::Lookup;
 use stretch::Scanned;
 
-// Bytes from .. to of a held word.
+// Bytes from .. to of a held word, at least one, so that no shift is by 64. The highest byte is read and then shifted out: a
+// shift by a fixed count is one step, and one by a count that varies is several.
 fn bytes_bwd(t: &Lookup, word: u64, from: usize, to: usize, r: i64) -> Scanned
     requires { ⌜ IsTable (now t) ⌝ }
-    requires { ⌜ (from ≤ to) × (to ≤ 8) ⌝ }
+    requires { ⌜ (from < to) × (to ≤ 8) ⌝ }
     requires { ⌜ size r + 128 < 9223372036854775808 ⌝ }
     ensures { λ a. ⌜ a ≡ scan backward (digit word) (8 * (to - from)) (8 * from) r ⌝ }
 {
+    let mut rest = word << (64 - 8 * to);
     let mut k = to;
     let mut q = r;
     while from < k {
         k -= 1;
-        match lookup::process_block_bwd(t, row::byte_of(word, k), q) {
+        match lookup::process_block_bwd(t, row::byte_of(rest, 7), q) {
             Scanned::Hit(j) => {
                 return Scanned::Hit(8 * k + j);
             }
@@ -31,6 +33,7 @@ fn bytes_bwd(t: &Lookup, word: u64, from: usize, to: usize, r: i64) -> Scanned
                 q = l;
             }
         }
+        rest <<= 8;
     }
     Scanned::Left(q)
 }
@@ -38,7 +41,7 @@ fn bytes_bwd(t: &Lookup, word: u64, from: usize, to: usize, r: i64) -> Scanned
 // The same; a whole word is passed over at once where r is further than its bits go.
 fn word_bwd(t: &Lookup, word: u64, from: usize, to: usize, r: i64) -> Scanned
     requires { ⌜ IsTable (now t) ⌝ }
-    requires { ⌜ (from ≤ to) × (to ≤ 8) ⌝ }
+    requires { ⌜ (from < to) × (to ≤ 8) ⌝ }
     requires { ⌜ size r + 128 < 9223372036854775808 ⌝ }
     ensures { λ a. ⌜ a ≡ scan backward (digit word) (8 * (to - from)) (8 * from) r ⌝ }
 {

@@ -13,17 +13,19 @@ use crate::edge::edge_fwd;
 use lookup::Lookup;
 use stretch::Scanned;
 
-// Bytes from .. to of a held word.
+// Bytes from .. to of a held word, at least one, so that no shift is by 64. The lowest byte is read and then shifted out: a
+// shift by a fixed count is one step, and one by a count that varies is several.
 fn bytes_fwd(t: &Lookup, word: u64, from: usize, to: usize, r: i64) -> Scanned
     requires { ⌜ IsTable (now t) ⌝ }
-    requires { ⌜ (from ≤ to) × (to ≤ 8) ⌝ }
+    requires { ⌜ (from < to) × (to ≤ 8) ⌝ }
     requires { ⌜ size r + 128 < 9223372036854775808 ⌝ }
     ensures { λ a. ⌜ a ≡ scan forward (digit word) (8 * (to - from)) (8 * from) r ⌝ }
 {
+    let mut rest = word >> (8 * from);
     let mut k = from;
     let mut q = r;
     while k < to {
-        match lookup::process_block_fwd(t, row::byte_of(word, k), q) {
+        match lookup::process_block_fwd(t, row::byte_of(rest, 0), q) {
             Scanned::Hit(j) => {
                 return Scanned::Hit(8 * k + j);
             }
@@ -31,6 +33,7 @@ fn bytes_fwd(t: &Lookup, word: u64, from: usize, to: usize, r: i64) -> Scanned
                 q = l;
             }
         }
+        rest >>= 8;
         k += 1;
     }
     Scanned::Left(q)
@@ -39,7 +42,7 @@ fn bytes_fwd(t: &Lookup, word: u64, from: usize, to: usize, r: i64) -> Scanned
 // The same; a whole word is passed over at once where r is further than its bits go.
 fn word_fwd(t: &Lookup, word: u64, from: usize, to: usize, r: i64) -> Scanned
     requires { ⌜ IsTable (now t) ⌝ }
-    requires { ⌜ (from ≤ to) × (to ≤ 8) ⌝ }
+    requires { ⌜ (from < to) × (to ≤ 8) ⌝ }
     requires { ⌜ size r + 128 < 9223372036854775808 ⌝ }
     ensures { λ a. ⌜ a ≡ scan forward (digit word) (8 * (to - from)) (8 * from) r ⌝ }
 {
