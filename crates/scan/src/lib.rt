@@ -10,6 +10,8 @@ mod numbers;
 mod tree;
 
 pub use backward::bwd_search_block;
+pub use edge::edge_bwd;
+pub use edge::edge_fwd;
 pub use forward::fwd_search_block;
 pub use numbers::stretch_numbers;
 pub use tree::one_tree;

@@ -1,14 +1,14 @@
 -- The answers of the code's last parts, one law a branch.
---   leaf-hit, leaf-left: the leaf reached; beyond-out, beyond-misfit, beyond-lost, beyond-leaf: past the starting block
---   walk-end, walk-far, walk-hit, walk-left: the whole
+--   leaf-hit, leaf-left: the leaf reached; start-hit, start-left: the starting block
+--   beyond-out, beyond-misfit, beyond-lost, beyond-leaf: past the starting block; walk-end, walk-far, walk-starts: the whole
 --   Laid, laid-out: the layout, and where a climb starts in it
 --   start-room, turn-there, leaf-there: the nodes on the way are there, with room for what is left of r; room-fits: that fits an i64
---   less-fits, far-over, far-under, far-neither: the two tests of |r| > n; start-size: what the starting block leaves is not large
+--   less-fits, far-over, far-under, far-neither: the two tests of |r| > n
 -- Assumes nothing.
 use mathlib.Core.Path.{_≡_, refl, ap, _∙_}
 use mathlib.Core.Bool.{Bool, true, false}
 use mathlib.Core.List.{List}
-use Prim.Native.Nat.{ℕ, _+_, _-_, _*_, _/_, _≤_, _<_, min}
+use Prim.Native.Nat.{ℕ, _+_, _-_, _*_, _≤_, _<_, min}
 use native.Mathlib.Omega.{arith}
 use native.Mathlib.Decide.{decLt}
 use borrow.Author.Tests.{lt-ltb, le-ltb}
@@ -23,11 +23,10 @@ use Rattle.ints.proofs.Linear.{minus}
 use Rattle.ints.proofs.Shapes.{zsum}
 use Rattle.row.specs.Answer.{at, nothing, refused}
 use Rattle.row.specs.Bits.{bitAt}
-use Rattle.row.specs.Way.{Way, forward, backward}
+use Rattle.row.specs.Way.{Way}
 use Rattle.stretch.specs.declared.bits.Scanned.{Scanned}
 use Rattle.stretch.specs.declared.bits.Scanned.the-variants.{Hit, Left}
 use Rattle.stretch.specs.Scan.{scan}
-use Rattle.stretch.proofs.Parts.{scan-size}
 use Rattle.mmt.specs.declared.layout.Layout.{Layout}
 use Rattle.mmt.specs.Layout.{leaves, layoutOf, inner, count}
 use Rattle.mmt.proofs.Powers.{inner-top, leaves-out}
@@ -36,10 +35,9 @@ use Rattle.mmt.proofs.Places.{inner-is, count-is, place-leaf}
 use Rattle.mmt.proofs.Covered.{top}
 use Rattle.walk.specs.declared.path.Climbed.the-variants.{Turn, Out, Misfit as MisfitClimbed}
 use Rattle.walk.specs.declared.path.Descended.the-variants.{Leaf, Lost}
-use Rattle.walk.specs.Walk.{Climb, turn, out, misfit, climb, Descent, leaf, lost, descend, ends, startBlock, startScan, inLeaf, land, beyond, walk}
+use Rattle.walk.specs.Walk.{Climb, turn, out, misfit, climb, Descent, leaf, lost, descend, ends, startBlock, startScan, inLeaf, land, beyond, inStart, walk}
 use Rattle.walk.specs.Code.{climbedOf, descendedOf, Room}
 use Rattle.walk.proofs.Stretches.{block-place}
-use Rattle.walk.proofs.Right.{low, high}
 use Rattle.walk.proofs.Paths.{descend-count, Turned, turned, Landed, landed}
 
 -- ---- a climb and a descent by what is seen of them without the count
@@ -98,6 +96,13 @@ module _ (w : Way) (ws : List ℕ) (n B : ℕ) (s : List ℤ) where
   leaf-count (Hit j) c = refl
   leaf-count (Left q) c = refl
 
+  -- ---- the starting block b
+  pub start-hit : (b j : ℕ) {x : Scanned} → x ≡ Hit j → at j ≡ inStart w ws n B s b x .answer
+  start-hit b j e = rw e
+
+  pub start-left : (b : ℕ) (q : ℤ) {x : Scanned} → x ≡ Left q → beyond w ws n B s b q .answer ≡ inStart w ws n B s b x .answer
+  start-left b q e = rw e
+
   -- ---- past the starting block b
   module _ (b : ℕ) (r : ℤ) where
     abbrev climbing : Climb
@@ -151,13 +156,9 @@ module _ (w : Way) (ws : List ℕ) (n B : ℕ) (s : List ℤ) where
       walk-far f = rw (e, lt-ltb n (size r) f)
 
       module _ (f : size r ≤ n) where
-        pub walk-hit : (j : ℕ) → startScan w ws n B i r ≡ Hit j → at j ≡ walk w ws n B s i r .answer
+        pub walk-starts : {x : Scanned} → x ≡ startScan w ws n B i r → inStart w ws n B s (startBlock w B i) x .answer ≡ walk w ws n B s i r .answer
         unfolding walk
-        walk-hit j x = rw (e, le-ltb n (size r) f, x)
-
-        pub walk-left : (q : ℤ) → startScan w ws n B i r ≡ Left q → beyond w ws n B s (startBlock w B i) q .answer ≡ walk w ws n B s i r .answer
-        unfolding walk
-        walk-left q x = rw (e, le-ltb n (size r) f, x)
+        walk-starts x = rw (e, le-ltb n (size r) f, x)
 
 -- ---- numbers
 pub room-fits : (c : ℕ) (r : ℤ) → Room c r → SFits w64 r
@@ -193,10 +194,3 @@ module _ (n : ℕ) (short : n ≤ 4294967296) where
         let t = rw (signed, toZ-ofZ w64 r f) at h in
         let u = rw (toZ-ofZ w64 (pos 0 -ℤ toZ w64 n) less-fits, signed, toZ-ofZ w64 r f) at k in
         size-in n r (omega zsum) (omega (zsum, minus (pos 0) (pos n)))
-
--- what the scan of the starting block leaves
-pub start-size : (w : Way) (ws : List ℕ) (n B i : ℕ) (r q : ℤ) → 0 < B → B ≤ 65536 → n ≤ 4294967296 → size r ≤ n
-    → startScan w ws n B i r ≡ Left q → size q ≤ 4295032832
-start-size forward ws n B i r q pB b h o e =
-    omega (arith, low n B pB (i + 1), scan-size forward (bitAt ws) (min n (((i + 1) / B + 1) * B) - (i + 1)) (i + 1) r q e)
-start-size backward ws n B i r q pB b h o e = omega (arith, high n B pB (i - 1), scan-size backward (bitAt ws) (i - (i - 1) / B * B) ((i - 1) / B * B) r q e)

@@ -2,7 +2,7 @@
 --   near-size, fits-size: a number in range is at most 2^32 large; passed-size: what is left past a node is no larger by more;
 --   passed-fits: it fits an i64
 --   examined-total, examined-least, examined-greatest, examined-fit: what the range test finds; Looked, looked: what it found
---   asked-absent, asked-misfit, asked-here, asked-past: what a node says; Says, says: what it said; past-size, past-fits: what is left
+--   asked-absent, asked-misfit, asked-here, asked-past: what a node says; Says, says: what it said; past-size: what is left
 --   told-no, told-yes: what a test of `!near_zero(z)` found; total-back: a total as the machine reads it back
 -- Assumes nothing.
 use mathlib.Core.Path.{_≡_, refl, sym, _∙_}
@@ -130,6 +130,3 @@ module _ (w : Way) (m : ℕ) (s : List ℤ) (k : ℕ) (r : ℤ) where
 
   pub past-size : (q : ℤ) → Says (Past q) → size q ≤ size r + 4294967296
   past-size q a = rw (a .3) at (passed-size w r (nodeAt s k) (a .1))
-
-  pub past-fits : (q : ℤ) → Says (Past q) → Room 0 r → SFits w64 q
-  past-fits q a h = omega (zsum, past-size q a)

@@ -8,3 +8,4 @@ pub mod Seen
 pub mod Asked
 pub mod Paths
 pub mod Answers
+pub mod Edges

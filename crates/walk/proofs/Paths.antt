@@ -1,36 +1,39 @@
 -- A climb and a descent as the code goes them: without the count of nodes examined, and by what a node that is asked says.
 --   climb-count, descend-count: the count makes no difference
---   climbed-root, climbed-up, climbed-here, climbed-past, climbed-absent, climbed-misfit: one step up
---   descended-leaf, descended-near, descended-none, descended-misfit, descended-far, descended-lone, descended-misfit-far, descended-neither: one down
+--   climbed-root, climbed-up, climbed-asked: one step up; rises-start, rises-on: up past the nodes that have nothing beyond them
+--   down-first, down-second: down by one level; descended-leaf, descended-down: by none, or by one level and then the others
+--   Fallen, down-there: the child that one level leads to
 --   Turned, turned: the node that a climb turns to; Landed, landed: the leaf that a descent reaches
 -- Assumes nothing.
-use mathlib.Core.Path.{_≡_, refl, ap, _∙_}
+use mathlib.Core.Path.{_≡_, refl, sym, ap, _∙_}
 use mathlib.Core.Bool.{Bool, true, false, cond}
 use mathlib.Core.List.{List}
-use Prim.Native.Nat.{ℕ, zero, suc, _+_, _-_, _*_, _/_, _<_}
+use Prim.Native.Nat.{ℕ, zero, suc, _+_, _-_, _*_, _/_, _≤_, _<_}
 use native.Mathlib.Omega.{arith}
 use borrow.Author.Tests.{eqb-false, leb-false}
 use lib.Dec.{leb, eqb}
 use lib.IntN.{ℤ}
+use Rattle.ints.specs.Sides.{size}
 use Rattle.row.specs.Way.{Way}
 use Rattle.stretch.specs.Scan.{passed}
 use Rattle.mmt.specs.Nodes.{nodeAt}
 use Rattle.mmt.proofs.Places.{Place, place-up}
+use Rattle.walk.specs.declared.ask.Asked.{Asked}
 use Rattle.walk.specs.declared.ask.Asked.the-variants.{Here, Past, Absent, Misfit as MisfitAsked}
 use Rattle.walk.specs.declared.path.Climbed.{Climbed}
 use Rattle.walk.specs.declared.path.Climbed.the-variants.{Turn, Out, Misfit as MisfitClimbed}
 use Rattle.walk.specs.declared.path.Descended.{Descended}
 use Rattle.walk.specs.declared.path.Descended.the-variants.{Leaf, Lost}
 use Rattle.walk.specs.Walk.{fits, holdsOn, Climb, last, sibling, climb, Descent, nearer, farther, descend}
-use Rattle.walk.specs.Code.{climbedOf, descendedOf, Room}
+use Rattle.walk.specs.Code.{askedOf, climbedOf, descendedOf, Rises, Room}
 use Rattle.walk.proofs.Ways.{near-place, far-place, side-place, chosen}
-use Rattle.walk.proofs.Steps.{climb-root, climb-up, climb-alone, climb-misfit, climb-turn, climb-pass, descend-leaf, descend-none, descend-misfit, descend-near, descend-lone, descend-misfit-far, descend-far, descend-neither}
-use Rattle.walk.proofs.Asked.{Says, passed-size}
+use Rattle.walk.proofs.Steps.{climb-root, climb-up, climb-beside, descend-leaf}
+use Rattle.walk.proofs.Asked.{passed-size}
 
--- two choices by one test, alike as f sees them
-alike : {A B : Type 0} (f : A → B) (t : Bool) {x y u v : A} → f x ≡ f u → f y ≡ f v → f (cond t x y) ≡ f (cond t u v)
-alike f true p q = p
-alike f false p q = q
+-- two choices by one test, alike as f and g see them
+alike : {A B C : Type 0} (f : A → C) (g : B → C) (t : Bool) {x y : A} {u v : B} → f x ≡ g u → f y ≡ g v → f (cond t x y) ≡ g (cond t u v)
+alike f g true p q = p
+alike f g false p q = q
 
 module _ (w : Way) (m : ℕ) (s : List ℤ) where
   -- ---- the count
@@ -40,10 +43,11 @@ module _ (w : Way) (m : ℕ) (s : List ℤ) where
   climb-count (suc f) h k r c d =
       let x = nodeAt s (sibling w k) in
       let j = (k - 1) / 2 in
-      alike climbedOf (eqb k 0) refl
-      (alike climbedOf (last w k) (climb-count f (suc h) j r c d)
-      (alike climbedOf (leb m (sibling w k)) refl
-      (alike climbedOf (fits x) (alike climbedOf (holdsOn w x r) refl (climb-count f (suc h) j (passed w r (x .total)) (suc c) (suc d))) refl)))
+      alike climbedOf climbedOf (eqb k 0) refl
+      (alike climbedOf climbedOf (last w k) (climb-count f (suc h) j r c d)
+      (alike climbedOf climbedOf (leb m (sibling w k)) refl
+      (alike climbedOf climbedOf (fits x)
+      (alike climbedOf climbedOf (holdsOn w x r) refl (climb-count f (suc h) j (passed w r (x .total)) (suc c) (suc d))) refl)))
 
   pub descend-count : (h k : ℕ) (r : ℤ) (c d : ℕ) → descendedOf (descend w m s h k r c) ≡ descendedOf (descend w m s h k r d)
   unfolding descend
@@ -52,65 +56,131 @@ module _ (w : Way) (m : ℕ) (s : List ℤ) where
       let x = nodeAt s (nearer w k) in
       let y = nodeAt s (farther w k) in
       let q = passed w r (x .total) in
-      alike descendedOf (leb m (nearer w k)) refl
-      (alike descendedOf (fits x) (alike descendedOf (holdsOn w x r) (descend-count h (nearer w k) r (suc c) (suc d))
-      (alike descendedOf (leb m (farther w k)) refl
-      (alike descendedOf (fits y) (alike descendedOf (holdsOn w y q) (descend-count h (farther w k) q (suc (suc c)) (suc (suc d))) refl) refl))) refl)
+      alike descendedOf descendedOf (leb m (nearer w k)) refl
+      (alike descendedOf descendedOf (fits x) (alike descendedOf descendedOf (holdsOn w x r) (descend-count h (nearer w k) r (suc c) (suc d))
+      (alike descendedOf descendedOf (leb m (farther w k)) refl
+      (alike descendedOf descendedOf (fits y)
+      (alike descendedOf descendedOf (holdsOn w y q) (descend-count h (farther w k) q (suc (suc c)) (suc (suc d))) refl) refl))) refl)
 
   -- ---- one step up
   module _ (h k : ℕ) (r : ℤ) where
     pub climbed-root : k ≡ 0 → Out ≡ climbedOf (climb w m s k h k r 0)
     climbed-root z = ap climbedOf (climb-root w m s h k r 0 z)
 
+    -- by what the sibling says
+    abbrev pub byBeside : Asked → Climbed
+    byBeside Here = Turn (sibling w k) h r
+    byBeside (Past q) = climbedOf (climb w m s ((k - 1) / 2) (h + 1) ((k - 1) / 2) q 0)
+    byBeside Absent = Out
+    byBeside MisfitAsked = MisfitClimbed
+
     module _ (z : k ≡ 0 → ⊥) where
       pub climbed-up : last w k ≡ true → climbedOf (climb w m s ((k - 1) / 2) (h + 1) ((k - 1) / 2) r 0) ≡ climbedOf (climb w m s k h k r 0)
       climbed-up e = ap climbedOf (climb-up w m s h k r 0 z e)
 
-      module _ (e : last w k ≡ false) where
-        pub climbed-here : Says w m s (sibling w k) r Here → Turn (sibling w k) h r ≡ climbedOf (climb w m s k h k r 0)
-        climbed-here a = ap climbedOf (climb-turn w m s h k r 0 z e (a .0) (a .1) (a .2))
+      pub climbed-asked : last w k ≡ false → {b : Asked} → askedOf w m s (sibling w k) r ≡ b → byBeside b ≡ climbedOf (climb w m s k h k r 0)
+      unfolding askedOf
+      climbed-asked e f =
+          let x = nodeAt s (sibling w k) in
+          let j = (k - 1) / 2 in
+          rw (sym f, ← climb-beside w m s h k r 0 z e)
+          (alike byBeside climbedOf (leb m (sibling w k)) refl
+          (alike byBeside climbedOf (fits x)
+          (alike byBeside climbedOf (holdsOn w x r) refl (climb-count j (h + 1) j (passed w r (x .total)) 0 1)) refl))
 
-        pub climbed-past : (q : ℤ) → Says w m s (sibling w k) r (Past q)
-            → climbedOf (climb w m s ((k - 1) / 2) (h + 1) ((k - 1) / 2) q 0) ≡ climbedOf (climb w m s k h k r 0)
-        climbed-past q a =
-            rw (← a .3) (climb-count ((k - 1) / 2) (h + 1) ((k - 1) / 2) (passed w r (nodeAt s (sibling w k) .total)) 0 1 ∙ ap climbedOf (climb-pass w m s h k r 0 z e (a .0) (a .1) (a .2)))
+  -- ---- down by one level
+  module _ (k : ℕ) (r : ℤ) where
+    -- by what the child says that is asked second, for q, and by what the first one says
+    abbrev pub bySecond : ℤ → Asked → Descended
+    bySecond q Here = Leaf (farther w k) q
+    bySecond q (Past z) = Lost
+    bySecond q Absent = Lost
+    bySecond q MisfitAsked = Lost
 
-        pub climbed-absent : Says w m s (sibling w k) r Absent → Out ≡ climbedOf (climb w m s k h k r 0)
-        climbed-absent a = ap climbedOf (climb-alone w m s h k r 0 z e a)
+    abbrev pub byFirst : Asked → Descended
+    byFirst Here = Leaf (nearer w k) r
+    byFirst (Past q) = bySecond q (askedOf w m s (farther w k) q)
+    byFirst Absent = Lost
+    byFirst MisfitAsked = Lost
 
-        pub climbed-misfit : Says w m s (sibling w k) r MisfitAsked → MisfitClimbed ≡ climbedOf (climb w m s k h k r 0)
-        climbed-misfit a = ap climbedOf (climb-misfit w m s h k r 0 z e (a .0) (a .1))
+    down-asked : byFirst (askedOf w m s (nearer w k) r) ≡ descendedOf (descend w m s 1 k r 0)
+    unfolding askedOf descend
+    down-asked =
+        let x = nodeAt s (nearer w k) in
+        let y = nodeAt s (farther w k) in
+        let q = passed w r (x .total) in
+        alike byFirst descendedOf (leb m (nearer w k)) refl
+        (alike byFirst descendedOf (fits x) (alike byFirst descendedOf (holdsOn w x r) refl
+        (alike (bySecond q) descendedOf (leb m (farther w k)) refl
+        (alike (bySecond q) descendedOf (fits y) (alike (bySecond q) descendedOf (holdsOn w y q) refl refl) refl))) refl)
 
-  -- ---- one step down
-  module _ (h k : ℕ) (r : ℤ) where
-    pub descended-leaf : h ≡ 0 → Leaf k r ≡ descendedOf (descend w m s h k r 0)
-    descended-leaf z = ap descendedOf (descend-leaf w m s h k r 0 z)
+    pub down-first : {b : Asked} → askedOf w m s (nearer w k) r ≡ b → byFirst b ≡ descendedOf (descend w m s 1 k r 0)
+    down-first e = rw (sym e) down-asked
 
-    module _ (z : h ≡ 0 → ⊥) where
-      pub descended-near : Says w m s (nearer w k) r Here → descendedOf (descend w m s (h - 1) (nearer w k) r 0) ≡ descendedOf (descend w m s h k r 0)
-      descended-near a = descend-count (h - 1) (nearer w k) r 0 1 ∙ ap descendedOf (descend-near w m s h k r 0 z (a .0) (a .1) (a .2))
+    pub down-second : (q : ℤ) {b : Asked} → askedOf w m s (nearer w k) r ≡ Past q → askedOf w m s (farther w k) q ≡ b
+        → bySecond q b ≡ descendedOf (descend w m s 1 k r 0)
+    down-second q e f = rw (sym f) (down-first e)
 
-      pub descended-none : Says w m s (nearer w k) r Absent → Lost ≡ descendedOf (descend w m s h k r 0)
-      descended-none a = ap descendedOf (descend-none w m s h k r 0 z a)
+  -- ---- down by one level, and then by h
+  abbrev pub onDown : ℕ → Descended → Descended
+  onDown h (Leaf j q) = descendedOf (descend w m s h j q 0)
+  onDown h Lost = Lost
 
-      pub descended-misfit : Says w m s (nearer w k) r MisfitAsked → Lost ≡ descendedOf (descend w m s h k r 0)
-      descended-misfit a = ap descendedOf (descend-misfit w m s h k r 0 z (a .0) (a .1))
+  then-down : (h k : ℕ) (r : ℤ) → onDown h (descendedOf (descend w m s 1 k r 0)) ≡ descendedOf (descend w m s (suc h) k r 0)
+  unfolding descend
+  then-down h k r =
+      let lower : Descent → Descended = (λ d. onDown h (descendedOf d)) in
+      let x = nodeAt s (nearer w k) in
+      let y = nodeAt s (farther w k) in
+      let q = passed w r (x .total) in
+      alike lower descendedOf (leb m (nearer w k)) refl
+      (alike lower descendedOf (fits x) (alike lower descendedOf (holdsOn w x r) (descend-count h (nearer w k) r 0 1)
+      (alike lower descendedOf (leb m (farther w k)) refl
+      (alike lower descendedOf (fits y) (alike lower descendedOf (holdsOn w y q) (descend-count h (farther w k) q 0 2) refl) refl))) refl)
 
-      module _ (q : ℤ) (a : Says w m s (nearer w k) r (Past q)) where
-        pub descended-far : Says w m s (farther w k) q Here → descendedOf (descend w m s (h - 1) (farther w k) q 0) ≡ descendedOf (descend w m s h k r 0)
-        descended-far b =
-            rw (← a .3)
-            (descend-count (h - 1) (farther w k) (passed w r (nodeAt s (nearer w k) .total)) 0 2
-            ∙ ap descendedOf (descend-far w m s h k r 0 z (a .0) (a .1) (a .2) (b .0) (b .1) (rw (← a .3) at (b .2))))
+  pub descended-down : (h k : ℕ) (r : ℤ) → (h ≡ 0 → ⊥) → {b : Descended} → descendedOf (descend w m s 1 k r 0) ≡ b
+      → onDown (h - 1) b ≡ descendedOf (descend w m s h k r 0)
+  descended-down zero k r z e = absurd (z refl)
+  descended-down (suc h) k r z e = let d : suc h - 1 ≡ h = omega arith in rw (d, sym e) (then-down h k r)
 
-        pub descended-lone : Says w m s (farther w k) q Absent → Lost ≡ descendedOf (descend w m s h k r 0)
-        descended-lone b = ap descendedOf (descend-lone w m s h k r 0 z (a .0) (a .1) (a .2) b)
+  pub descended-leaf : (h k : ℕ) (r : ℤ) → h ≡ 0 → Leaf k r ≡ descendedOf (descend w m s h k r 0)
+  descended-leaf h k r z = ap descendedOf (descend-leaf w m s h k r 0 z)
 
-        pub descended-misfit-far : Says w m s (farther w k) q MisfitAsked → Lost ≡ descendedOf (descend w m s h k r 0)
-        descended-misfit-far b = ap descendedOf (descend-misfit-far w m s h k r 0 z (a .0) (a .1) (a .2) (b .0) (b .1))
+  -- the child is there, and r moves by one total at most
+  abbrev pub Fallen : ℤ → Descended → Type 0
+  Fallen r (Leaf j q) = (j < m) × (size q ≤ size r + 4294967296)
+  Fallen r Lost = Unit {0}
 
-        pub descended-neither : (u : ℤ) → Says w m s (farther w k) q (Past u) → Lost ≡ descendedOf (descend w m s h k r 0)
-        descended-neither u b = ap descendedOf (descend-neither w m s h k r 0 z (a .0) (a .1) (a .2) (b .0) (b .1) (rw (← a .3) at (b .2)))
+  fallen : (k : ℕ) (r : ℤ) → Fallen r (descendedOf (descend w m s 1 k r 0))
+  unfolding descend
+  fallen k r =
+      let P : Descent → Type 0 = (λ d. Fallen r (descendedOf d)) in
+      let i = nearer w k in
+      let j = farther w k in
+      let x = nodeAt s i in
+      let y = nodeAt s j in
+      chosen P (leb m i) (λ a. tt)
+      (λ a. chosen P (fits x)
+      (λ g. chosen P (holdsOn w x r) (λ v. (leb-false m i a, omega arith))
+      (λ v. chosen P (leb m j) (λ e. tt)
+      (λ e. chosen P (fits y) (λ d. chosen P (holdsOn w y (passed w r (x .total))) (λ v. (leb-false m j e, passed-size w r x g)) (λ v. tt))
+      (λ d. tt))))
+      (λ g. tt))
+
+  pub down-there : (k : ℕ) (r : ℤ) {b : Descended} → descendedOf (descend w m s 1 k r 0) ≡ b → Fallen r b
+  down-there k r e = rw (sym e) (fallen k r)
+
+-- ---- up past the nodes that have nothing beyond them
+module _ (w : Way) (k h : ℕ) where
+  pub rises-start : Rises w k h k h
+  rises-start = record { under = omega arith; room = omega arith; same = λ m s r. refl }
+
+  pub rises-on : (j g : ℕ) → Rises w k h j g → (j ≡ 0 → ⊥) → last w j ≡ true → Rises w k h ((j - 1) / 2) (g + 1)
+  rises-on j g p z e = record {
+    under = omega (arith, p .under);
+    room = omega (arith, p .room);
+    same = λ m s r. climbed-up w m s g j r z e ∙ p .same m s r;
+  }
 
 -- ---- where a climb turns and a descent ends, in a tree of t levels
 

@@ -1,7 +1,7 @@
 -- The climb and the descent by what they test, one law a branch. A climb is allowed as many steps as the number of its node.
 --   enough: more steps make no difference
---   climb-root, climb-up, climb-alone, climb-misfit, climb-turn, climb-pass: one step up
---   descend-leaf, descend-none, descend-misfit, descend-near, descend-lone, descend-misfit-far, descend-far, descend-neither: one step down
+--   climb-root, climb-up, climb-beside: one step up; climb-alone, climb-turn, climb-pass: by what is found of the sibling
+--   descend-leaf, descend-near, descend-far: one step down
 -- Assumes nothing.
 use mathlib.Core.Path.{_≡_, refl, sym}
 use mathlib.Core.Bool.{true, false, cond}
@@ -60,15 +60,16 @@ module _ (w : Way) (m : ℕ) (s : List ℤ) where
       climb-up e = rw (← climb-step h k r c, ne-eqb k 0 z, e)
 
       module _ (e : last w k ≡ false) where
+        pub climb-beside : cond (leb m (sibling w k)) (out c)
+            (examine w (nodeAt s (sibling w k)) r misfit (turn (sibling w k) h r (c + 1)) (λ q. parent h k q (c + 1))) ≡ climb w m s k h k r c
+        climb-beside = rw (← climb-step h k r c, ne-eqb k 0 z, e)
+
         pub climb-alone : m ≤ sibling w k → out c ≡ climb w m s k h k r c
         climb-alone l = rw (← climb-step h k r c, ne-eqb k 0 z, e, le-leb m (sibling w k) l)
 
         module _ (l : sibling w k < m) where
           abbrev beside : Numbers
           beside = nodeAt s (sibling w k)
-
-          pub climb-misfit : fits beside ≡ false → misfit ≡ climb w m s k h k r c
-          climb-misfit f = rw (← climb-step h k r c, ne-eqb k 0 z, e, lt-leb m (sibling w k) l, f)
 
           module _ (f : fits beside ≡ true) where
             pub climb-turn : holdsOn w beside r ≡ true → turn (sibling w k) h r (c + 1) ≡ climb w m s k h k r c
@@ -105,28 +106,10 @@ module _ (w : Way) (m : ℕ) (s : List ℤ) where
       descend-step zero z = absurd (z refl)
       descend-step (suc g) z = let e : suc g - 1 ≡ g = omega arith in rw (e, add-one c, add-two c)
 
-      pub descend-none : m ≤ nearer w k → lost ≡ descend w m s h k r c
-      descend-none l = rw (← descend-step h z, le-leb m (nearer w k) l)
+      module _ (l : nearer w k < m) (f : fits first ≡ true) where
+        pub descend-near : holdsOn w first r ≡ true → descend w m s (h - 1) (nearer w k) r (c + 1) ≡ descend w m s h k r c
+        descend-near t = rw (← descend-step h z, lt-leb m (nearer w k) l, f, t)
 
-      module _ (l : nearer w k < m) where
-        pub descend-misfit : fits first ≡ false → lost ≡ descend w m s h k r c
-        descend-misfit f = rw (← descend-step h z, lt-leb m (nearer w k) l, f)
-
-        module _ (f : fits first ≡ true) where
-          pub descend-near : holdsOn w first r ≡ true → descend w m s (h - 1) (nearer w k) r (c + 1) ≡ descend w m s h k r c
-          descend-near t = rw (← descend-step h z, lt-leb m (nearer w k) l, f, t)
-
-          module _ (t : holdsOn w first r ≡ false) where
-            pub descend-lone : m ≤ farther w k → lost ≡ descend w m s h k r c
-            descend-lone o = rw (← descend-step h z, lt-leb m (nearer w k) l, f, t, le-leb m (farther w k) o)
-
-            module _ (o : farther w k < m) where
-              pub descend-misfit-far : fits other ≡ false → lost ≡ descend w m s h k r c
-              descend-misfit-far g = rw (← descend-step h z, lt-leb m (nearer w k) l, f, t, lt-leb m (farther w k) o, g)
-
-              module _ (g : fits other ≡ true) where
-                pub descend-far : holdsOn w other q ≡ true → descend w m s (h - 1) (farther w k) q (c + 2) ≡ descend w m s h k r c
-                descend-far u = rw (← descend-step h z, lt-leb m (nearer w k) l, f, t, lt-leb m (farther w k) o, g, u)
-
-                pub descend-neither : holdsOn w other q ≡ false → lost ≡ descend w m s h k r c
-                descend-neither u = rw (← descend-step h z, lt-leb m (nearer w k) l, f, t, lt-leb m (farther w k) o, g, u)
+        module _ (t : holdsOn w first r ≡ false) (o : farther w k < m) (g : fits other ≡ true) where
+          pub descend-far : holdsOn w other q ≡ true → descend w m s (h - 1) (farther w k) q (c + 2) ≡ descend w m s h k r c
+          descend-far u = rw (← descend-step h z, lt-leb m (nearer w k) l, f, t, lt-leb m (farther w k) o, g, u)

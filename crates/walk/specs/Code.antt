@@ -1,8 +1,9 @@
 -- What the code of the walk answers, part by part: the definition's parts without the count of nodes examined.
 -- Assumes nothing.
+use mathlib.Core.Path.{_≡_}
 use mathlib.Core.Bool.{cond}
 use mathlib.Core.List.{List}
-use Prim.Native.Nat.{ℕ, _+_, _*_, _<_}
+use Prim.Native.Nat.{ℕ, _+_, _*_, _≤_, _<_}
 use lib.Dec.{leb}
 use lib.IntN.{ℤ}
 use Rattle.ints.specs.Sides.{size}
@@ -17,7 +18,7 @@ use Rattle.walk.specs.declared.path.Climbed.{Climbed}
 use Rattle.walk.specs.declared.path.Climbed.the-variants.{Turn, Out, Misfit as MisfitClimbed}
 use Rattle.walk.specs.declared.path.Descended.{Descended}
 use Rattle.walk.specs.declared.path.Descended.the-variants.{Leaf, Lost}
-use Rattle.walk.specs.Walk.{fits, examine, Climb, turn, out, misfit, Descent, leaf, lost}
+use Rattle.walk.specs.Walk.{fits, examine, Climb, turn, out, misfit, climb, Descent, leaf, lost}
 
 -- a node's numbers, where all are in range
 unfoldable pub examinedOf : Numbers → Examined
@@ -36,6 +37,12 @@ climbedOf misfit = MisfitClimbed
 abbrev pub descendedOf : Descent → Descended
 descendedOf (leaf k r c) = Leaf k r
 descendedOf lost = Lost
+
+-- a climb goes on from node j, g levels above the leaves, as from node k, h above them, and needs no more room there
+pub record Rises (w : Way) (k h j g : ℕ) : Type 0 where
+  pub under : j ≤ k
+  pub room : g + 2 * j ≤ h + 2 * k
+  pub same : (m : ℕ) (s : List ℤ) (r : ℤ) → climbedOf (climb w m s j g j r 0) ≡ climbedOf (climb w m s k h k r 0)
 
 -- room in an i64 for c totals more, each of at most 2^32, and for the bits of a block
 abbrev pub Room : ℕ → ℤ → Type 0

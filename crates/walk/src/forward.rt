@@ -1,45 +1,86 @@
 // The walk forward.
 ghost use mathlib.Core.Path.{_≡_};
-ghost use Prim.Native.Nat.{_+_, _*_, _<_, _≤_};
+ghost use mathlib.Core.Bool.{false};
+ghost use Prim.Native.Nat.{_+_, _-_, _*_, _<_, _≤_, min};
 ghost use lib.ListN.{length};
 ghost use Rattle.ints.specs.Sides.{size};
 ghost use Rattle.row.specs.Answer.{paperFound};
+ghost use Rattle.row.specs.Bits.{bitAt};
 ghost use Rattle.row.specs.Way.{forward};
+ghost use Rattle.stretch.specs.Scan.{scan};
 ghost use Rattle.lookup.specs.Table.{IsTable};
 ghost use Rattle.mmt.specs.Layout.{width, inner, count, Fine};
-ghost use Rattle.walk.specs.Walk.{climb, descend, leaf, land, beyond, walk};
-ghost use Rattle.walk.specs.Code.{climbedOf, descendedOf, Room};
+ghost use Rattle.walk.specs.Walk.{last, climb, descend, leaf, land, beyond, inStart, walk};
+ghost use Rattle.walk.specs.Code.{climbedOf, descendedOf, Rises, Room};
 use crate::ask::Asked;
 use crate::ask::ask_fwd;
 use crate::path::Climbed;
 use crate::path::Descended;
+use crate::path::Place;
 use lookup::Lookup;
 use row::Found;
 use row::Refusal;
 use stretch::Scanned;
 
-// Up from node k, h levels above the leaves, to a sibling that holds r. The node's index falls.
+// Up from node k past right children, which have nothing beyond them: to a left child or to the root. A loop, since no node
+// is asked on the way and each call would cost a frame.
+fn left_above(k: usize, h: usize) -> Place
+    requires { ⌜ h + 2 * k ≤ 4294967296 ⌝ }
+    ensures { λ p. ⌜ Rises forward k h (p .node) (p .height) ⌝ }
+    ensures { λ p. ⌜ ((p .node ≡ 0 → ⊥) → last forward (p .node) ≡ false) ⌝ }
+{
+    let mut j = k;
+    let mut g = h;
+    while j != 0 && j % 2 == 0 {
+        j = (j - 1) / 2;
+        g += 1;
+    }
+    Place { node: j, height: g }
+}
+
+// Up from node k, h levels above the leaves, to a sibling that holds r. The node's index falls, with each node that is asked.
 fn climb_fwd(nodes: &[i64], all: usize, k: usize, h: usize, r: i64) -> Climbed
     requires { ⌜ (width * all ≤ length (now nodes)) × (k < all) ⌝ }
     requires { ⌜ Room (h + 2 * k) r ⌝ }
     ensures { λ a. ⌜ a ≡ climbedOf (climb forward all (now (nodes .entry)) k h k r 0) ⌝ }
 {
-    if k == 0 {
+    let p = left_above(k, h);
+    let j = p.node;
+    let g = p.height;
+    if j == 0 {
         return Climbed::Out;
     }
-    let parent = (k - 1) / 2;
-    if k % 2 == 0 {
-        return climb_fwd(nodes, all, parent, h + 1, r);
-    }
-    match ask_fwd(nodes, all, k + 1, r) {
-        Asked::Here => Climbed::Turn(k + 1, h, r),
-        Asked::Past(q) => climb_fwd(nodes, all, parent, h + 1, q),
+    match ask_fwd(nodes, all, j + 1, r) {
+        Asked::Here => Climbed::Turn(j + 1, g, r),
+        Asked::Past(q) => climb_fwd(nodes, all, (j - 1) / 2, g + 1, q),
         Asked::Absent => Climbed::Out,
         Asked::Misfit => Climbed::Misfit,
     }
 }
 
-// Down from node k, h levels above the leaves, by the child that holds r. The levels left fall.
+// Down from node k by one level, to the child that holds r.
+fn down_fwd(nodes: &[i64], all: usize, k: usize, r: i64) -> Descended
+    requires { ⌜ (width * all ≤ length (now nodes)) × (k < all) × (all ≤ 1073741823) ⌝ }
+    requires { ⌜ Room 1 r ⌝ }
+    ensures { λ a. ⌜ a ≡ descendedOf (descend forward all (now (nodes .entry)) 1 k r 0) ⌝ }
+{
+    let near = 2 * k + 1;
+    let far = 2 * k + 2;
+    match ask_fwd(nodes, all, near, r) {
+        Asked::Here => Descended::Leaf(near, r),
+        Asked::Past(q) => match ask_fwd(nodes, all, far, q) {
+            Asked::Here => Descended::Leaf(far, q),
+            Asked::Past(_) => Descended::Lost,
+            Asked::Absent => Descended::Lost,
+            Asked::Misfit => Descended::Lost,
+        },
+        Asked::Absent => Descended::Lost,
+        Asked::Misfit => Descended::Lost,
+    }
+}
+
+// Down from node k, h levels above the leaves, by the child that holds r. The levels left fall, by two a call: each call costs
+// a frame, and its answer is copied on the way back.
 fn descend_fwd(nodes: &[i64], all: usize, k: usize, h: usize, r: i64) -> Descended
     requires { ⌜ (width * all ≤ length (now nodes)) × (k < all) × (all ≤ 1073741823) ⌝ }
     requires { ⌜ Room h r ⌝ }
@@ -48,18 +89,17 @@ fn descend_fwd(nodes: &[i64], all: usize, k: usize, h: usize, r: i64) -> Descend
     if h == 0 {
         return Descended::Leaf(k, r);
     }
-    let near = 2 * k + 1;
-    let far = 2 * k + 2;
-    match ask_fwd(nodes, all, near, r) {
-        Asked::Here => descend_fwd(nodes, all, near, h - 1, r),
-        Asked::Past(q) => match ask_fwd(nodes, all, far, q) {
-            Asked::Here => descend_fwd(nodes, all, far, h - 1, q),
-            Asked::Past(_) => Descended::Lost,
-            Asked::Absent => Descended::Lost,
-            Asked::Misfit => Descended::Lost,
-        },
-        Asked::Absent => Descended::Lost,
-        Asked::Misfit => Descended::Lost,
+    match down_fwd(nodes, all, k, r) {
+        Descended::Leaf(j, q) => {
+            if h == 1 {
+                return Descended::Leaf(j, q);
+            }
+            match down_fwd(nodes, all, j, q) {
+                Descended::Leaf(i, p) => descend_fwd(nodes, all, i, h - 2, p),
+                Descended::Lost => Descended::Lost,
+            }
+        }
+        Descended::Lost => Descended::Lost,
     }
 }
 
@@ -115,17 +155,32 @@ fn beyond_fwd(
     }
 }
 
-// The walk from position i for r, once refusals 1 to 4 are passed.
-pub fn walk_fwd(
-    t: &Lookup,
+// The rest of the starting block b, from a byte's edge on, and past it. The table is made here and not before: most answers
+// are near, and are found among the bits before the edge.
+fn past_edge_fwd(
     words: &[u64],
     n: usize,
     nodes: &[i64],
     block: usize,
-    i: usize,
+    b: usize,
+    edge: usize,
     r: i64,
 ) -> Found
-    requires { ⌜ IsTable (now t) ⌝ }
+    requires { ⌜ Fine (length (now words)) n (length (now nodes)) block ⌝ }
+    requires { ⌜ (b * block < n) × (edge ≤ min n ((b + 1) * block)) × (size r + (min n ((b + 1) * block) - edge) ≤ 4295032832) ⌝ }
+    ensures { λ a. ⌜ paperFound a
+        ≡ inStart forward (now (words .entry)) n block (now (nodes .entry)) b
+        (scan forward (bitAt (now (words .entry))) (min n ((b + 1) * block) - edge) edge r) .answer ⌝ }
+{
+    let t = lookup::table();
+    match scan::fwd_search_block(&t, words, edge, row::earlier(n, (b + 1) * block), r) {
+        Scanned::Hit(j) => Found::At(j),
+        Scanned::Left(q) => beyond_fwd(&t, words, n, nodes, block, b, q),
+    }
+}
+
+// The walk from position i for r, once refusals 1 to 4 are passed.
+pub fn walk_fwd(words: &[u64], n: usize, nodes: &[i64], block: usize, i: usize, r: i64) -> Found
     requires { ⌜ Fine (length (now words)) n (length (now nodes)) block ⌝ }
     ensures { λ a. ⌜ paperFound a ≡ walk forward (now (words .entry)) n block (now (nodes .entry)) i r .answer ⌝ }
 {
@@ -143,9 +198,9 @@ pub fn walk_fwd(
     if r < -most {
         return Found::Nothing;
     }
-    let b = from / block;
-    match scan::fwd_search_block(t, words, from, row::earlier(n, (b + 1) * block), r) {
+    let edge = row::earlier(n, (from + 7) / 8 * 8);
+    match scan::edge_fwd(words, from, edge, r) {
         Scanned::Hit(j) => Found::At(j),
-        Scanned::Left(q) => beyond_fwd(t, words, n, nodes, block, b, q),
+        Scanned::Left(q) => past_edge_fwd(words, n, nodes, block, from / block, edge, q),
     }
 }

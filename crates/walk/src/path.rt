@@ -1,4 +1,10 @@
-// Where the two recursions end.
+// Where the two recursions go and end.
+
+// A node, so many levels above the leaves.
+pub struct Place {
+    pub node: usize,
+    pub height: usize,
+}
 
 // A climb: at the node to descend from, so many levels above the leaves, with so much left of r; or past the tree.
 pub enum Climbed {
@@ -7,7 +13,7 @@ pub enum Climbed {
     Misfit,
 }
 
-// A descent: at a leaf's node, with so much left of r.
+// A descent: at the node reached, a leaf's where no level is left, with so much left of r.
 pub enum Descended {
     Leaf(usize, i64),
     Lost,

@@ -30,11 +30,8 @@ enum-known-k c = search needs
 enum-told : tie.Need-enum-told
 enum-told c = search needs
 
-table-requires : tie.Need-table-requires
-table-requires c κs = search needs
-
 walk-bwd-requires : tie.Need-walk-bwd-requires
-walk-bwd-requires c κs = (c .before .table .ensures, gate-fine _ _ _ _ (passed (c .before .before)))
+walk-bwd-requires c κs = gate-fine _ _ _ _ (passed c)
 
 returns : tie.Need-returns
 returns c =
@@ -43,10 +40,10 @@ returns c =
 
 returns-2 : tie.Need-returns-2
 returns-2 c =
-    let e = c .before .before .before in
+    let e = c .before in
     when-backward _ _ _ _ _ _ _ (passed e) (rw (toZ-ofZ w64 _ (e .before .before .before .before .fits .r)) at (c .walk-bwd .ensures))
 
 pub bwd-search-spec : {M : Type 1} → statement M
 bwd-search-spec =
     tie.close
-    (tie.spec admit-requires enum-known-k enum-told table-requires walk-bwd-requires returns returns-2)
+    (tie.spec admit-requires enum-known-k enum-told walk-bwd-requires returns returns-2)

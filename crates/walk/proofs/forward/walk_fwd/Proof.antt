@@ -1,21 +1,23 @@
--- `walk::forward::walk_fwd` meets its contract: the ends, the test of |r| > n, the starting block, and what lies beyond it, each by one law. Assumes nothing.
-use mathlib.Core.Path.{_≡_, sym, _∙_}
+-- `walk::forward::walk_fwd` meets its contract: the ends, the test of |r| > n, the bits up to a byte's edge, and what lies past it. Assumes nothing.
+use mathlib.Core.Path.{_≡_, _∙_}
 use mathlib.Core.Bool.{false}
-use Prim.Native.Nat.{_+_, _≤_, _<_}
+use Prim.Native.Nat.{_+_, _-_, _*_, _/_, _≤_, _<_, min}
 use native.Mathlib.Omega.{arith}
 use borrow.Author.Needs.{needs}
 use borrow.Author.Tests.{le-leb, lt-leb}
 use mir.Syntax.{w64}
-use mir.Val.{SFits}
+use mir.Val.{toZ, ofZ}
 use mir.ValLaws.{toZ-ofZ}
 use Rattle.ints.specs.Sides.{size}
-use Rattle.ints.proofs.Shapes.{zsum}
+use Rattle.row.specs.Bits.{bitAt}
 use Rattle.row.specs.Way.{forward}
-use Rattle.mmt.specs.Layout.{leaves}
-use Rattle.mmt.proofs.Powers.{leaves-in, leaves-small}
-use Rattle.walk.specs.Walk.{ends, startBlock, startScan}
-use Rattle.walk.proofs.Right.{low, high, start-in}
-use Rattle.walk.proofs.Answers.{less-fits, far-over, far-under, far-neither, start-size, walk-end, walk-far, walk-hit, walk-left}
+use Rattle.stretch.specs.Scan.{scan}
+use Rattle.scan.proofs.Pieces.{Reading, reading-start, part-hit, part-on}
+use Rattle.mmt.proofs.Powers.{leaves-in}
+use Rattle.walk.specs.Walk.{ends}
+use Rattle.walk.proofs.Right.{low, start-in}
+use Rattle.walk.proofs.Edges.{edge-fwd-in, head-fwd}
+use Rattle.walk.proofs.Answers.{less-fits, far-over, far-under, far-neither, walk-end, walk-far, walk-starts}
 use Rattle.walk.proofs.forward.walk_fwd.Statement.{statement}
 use Rattle.walk.proofs.forward.walk_fwd.Tie as tie
 
@@ -26,12 +28,7 @@ ended c = let a = c .before .before .before .args in lt-leb (a .n) (a .i + 1) (c
 near : (c : tie.Else4) → size (c .before .before .before .before .before .args .r) ≤ c .before .before .before .before .before .args .n
 near c =
     let s = c .before .before .before .before .before in
-    far-neither (s .args .n) (s .pre .1 .short) (s .args .r) (s .fits .r) (c .before .if3 .left) (c .if4 .left)
-
-block : (c : tie.Else4) → (let a = c .before .before .before .before .before .args in startBlock forward (a .block) (a .i) < leaves (a .n) (a .block))
-block c =
-    let s = c .before .before .before .before .before in
-    start-in (s .args .n) (s .args .block) (omega (arith, s .pre .1 .eight)) forward (s .args .i) (c .before .before .if2 .left)
+    far-neither (s .args .n) (s .pre .short) (s .args .r) (s .fits .r) (c .before .if3 .left) (c .if4 .left)
 
 returns : tie.Need-returns
 returns c =
@@ -53,49 +50,37 @@ returns-3 : tie.Need-returns-3
 returns-3 c =
     let s = c .before .before .before .before in
     let a = s .args in
-    walk-far forward (a .words .now) (a .n) (a .block) (a .nodes .now) (a .i) (a .r) (ended (c .before)) (far-over (a .n) (s .pre .1 .short) (a .r) (s .fits .r) (c .if3 .taken))
+    walk-far forward (a .words .now) (a .n) (a .block) (a .nodes .now) (a .i) (a .r) (ended (c .before))
+    (far-over (a .n) (s .pre .short) (a .r) (s .fits .r) (c .if3 .taken))
 
 sub-if4 : tie.Need-sub-if4
-sub-if4 c = let s = c .before .before .before .before in less-fits (s .args .n) (s .pre .1 .short)
+sub-if4 c = let s = c .before .before .before .before in less-fits (s .args .n) (s .pre .short)
 
 returns-4 : tie.Need-returns-4
 returns-4 c =
     let s = c .before .before .before .before .before in
     let a = s .args in
-    walk-far forward (a .words .now) (a .n) (a .block) (a .nodes .now) (a .i) (a .r) (ended (c .before .before)) (far-under (a .n) (s .pre .1 .short) (a .r) (s .fits .r) (c .if4 .taken))
-
-div-b : tie.Need-div-b
-div-b c = search needs
+    walk-far forward (a .words .now) (a .n) (a .block) (a .nodes .now) (a .i) (a .r) (ended (c .before .before))
+    (far-under (a .n) (s .pre .short) (a .r) (s .fits .r) (c .if4 .taken))
 
 add-earlier : tie.Need-add-earlier
-add-earlier c =
-    let s = c .before .before .before .before .before in
-    let f = s .pre .1 in
-    omega (arith, block c, leaves-small (s .args .n) (s .args .block) (f .eight) (f .short))
+add-earlier c = search needs
 
 mul-earlier : tie.Need-mul-earlier
-mul-earlier c =
-    let s = c .before .before .before .before .before in
-    let f = s .pre .1 in
-    omega (arith, low (s .args .n) (s .args .block) (omega (arith, f .eight)) (s .args .i + 1), f .small, f .short)
+mul-earlier c = search needs
 
 earlier-requires : tie.Need-earlier-requires
 earlier-requires c κs = search needs
 
-fwd-search-block-requires : tie.Need-fwd-search-block-requires
-fwd-search-block-requires c κs =
-    let e = c .before in
-    let s = e .before .before .before .before .before in
-    let f = s .pre .1 in
+edge-fwd-requires : tie.Need-edge-fwd-requires
+edge-fwd-requires c κs =
+    let s = c .before .before .before .before .before .before in
+    let f = s .pre in
     let o = c .earlier .ensures in
-    let h = high (s .args .n) (s .args .block) (omega (arith, f .eight)) (s .args .i + 1) in
-    let z = near e in
-    (s .pre .0, (record { order = omega arith; inside = omega (arith, f .words); short = omega (arith, f .short) }, rw (toZ-ofZ w64 _ (s .fits .r)) (omega (arith, f .short))))
-
--- the scan of the starting block
-begun : (c : tie.After-fwd-search-block) → (let a = c .before .before .before .before .before .before .before .args in
-    c .fwd-search-block .result ≡ startScan forward (a .words .now) (a .n) (a .block) (a .i) (a .r))
-begun c = rw (toZ-ofZ w64 _ (c .before .before .before .before .before .before .before .fits .r), c .before .earlier .ensures) at (c .fwd-search-block .ensures)
+    let z = near (c .before) in (
+      record { order = omega arith; inside = omega (arith, f .words); one = omega arith; short = omega (arith, f .short) },
+      rw (toZ-ofZ w64 _ (s .fits .r)) (omega (arith, f .short)),
+    )
 
 enum-known-j : tie.Need-enum-known-j
 enum-known-j c = search needs
@@ -103,45 +88,67 @@ enum-known-j c = search needs
 enum-known-q : tie.Need-enum-known-q
 enum-known-q c = search needs
 
--- what the starting block leaves
-left : (c : tie.After-q) → size (c .q .given .0 .0) ≤ 4295032832
-left c =
-    let n = c .before .before in
-    let e = n .before .before in
-    let s = e .before .before .before .before .before in
-    let a = s .args in
-    let f = s .pre .1 in
-    start-size forward (a .words .now) (a .n) (a .block) (a .i) (a .r) (c .q .given .0 .0) (omega (arith, f .eight)) (f .small) (f .short) (near e) (sym (begun n) ∙ c .q .given .1)
+-- the bits before the edge
+first : (c : tie.After-edge-fwd) → (let a = c .before .before .before .before .before .before .before .args in
+    c .edge-fwd .result ≡ scan forward (bitAt (a .words .now)) (min (a .n) ((a .i + 1 + 7) / 8 * 8) - (a .i + 1)) (a .i + 1) (a .r))
+first c =
+    let e = c .before in
+    rw (toZ-ofZ w64 _ (e .before .before .before .before .before .before .fits .r), e .earlier .ensures) at (c .edge-fwd .ensures)
 
-beyond-fwd-requires : tie.Need-beyond-fwd-requires
-beyond-fwd-requires c κs =
+-- what is left to do after them
+after-edge : (c : tie.After-known-told2) → (let a = c .before .before .before .before .before .before .before .before .before .before .args in
+    let from = a .i + 1 in let edge = min (a .n) ((from + 7) / 8 * 8) in let to = min (a .n) ((from / a .block + 1) * a .block) in
+    Reading forward (bitAt (a .words .now)) (to - from) from (a .r) (to - edge) edge (toZ w64 (ofZ w64 (c .before .q .given .0 .0))))
+after-edge c =
     let n = c .before .before .before in
     let e = n .before .before in
     let s = e .before .before .before .before .before in
+    let f = s .pre in
+    part-on (reading-start _ _ _ _ _) (head-fwd (s .args .n) (s .args .block) (f .eight) (f .eights) (s .args .i) (e .before .before .if2 .left))
+    (first n) (c .before .q .given .1) (record { sfits = c .known-told2 .given .0 .1 })
+
+div-past-edge-fwd : tie.Need-div-past-edge-fwd
+div-past-edge-fwd c = search needs
+
+past-edge-fwd-requires : tie.Need-past-edge-fwd-requires
+past-edge-fwd-requires c κs =
+    let o = c .before .before .before .before in
+    let e = o .before in
+    let s = e .before .before .before .before .before in
     let a = s .args in
-    let f = s .pre .1 in
-    let b = startBlock forward (a .block) (a .i) in
-    let z = left (c .before) in
-    let v : SFits w64 (c .before .q .given .0 .0) = omega zsum in
-    rw (toZ-ofZ w64 _ v) (s .pre .0, (f, (leaves-in (a .n) (a .block) (omega (arith, f .eight)) b (block e), z)))
+    let f = s .pre in
+    let p : 0 < a .block = omega (arith, f .eight) in
+    let k = after-edge c .near in
+    let z = near e in
+    let h = low (a .n) (a .block) p (a .i + 1) in
+    let m = o .earlier .ensures in (
+      f,
+      (
+        leaves-in (a .n) (a .block) p ((a .i + 1) / a .block) (start-in (a .n) (a .block) p forward (a .i) (e .before .before .if2 .left)),
+        omega (arith, edge-fwd-in (a .n) (a .block) (f .eight) (f .eights) (a .i)),
+        omega (arith, f .small, f .short),
+      ),
+    )
 
 returns-5 : tie.Need-returns-5
 returns-5 c =
     let n = c .before .before .before in
     let e = n .before .before in
-    let a = e .before .before .before .before .before .args in
-    walk-hit forward (a .words .now) (a .n) (a .block) (a .nodes .now) (a .i) (a .r) (ended (e .before .before)) (near e) (c .before .j .given .0 .0) (sym (begun n) ∙ c .before .j .given .1)
+    let s = e .before .before .before .before .before in
+    let a = s .args in
+    let f = s .pre in
+    walk-starts forward (a .words .now) (a .n) (a .block) (a .nodes .now) (a .i) (a .r) (ended (e .before .before)) (near e)
+    (part-hit (reading-start _ _ _ _ _) (head-fwd (a .n) (a .block) (f .eight) (f .eights) (a .i) (e .before .before .if2 .left)) (first n)
+    (c .before .j .given .1))
 
 returns-6 : tie.Need-returns-6
 returns-6 c =
-    let g = c .before .before in
-    let n = g .before .before in
-    let e = n .before .before in
+    let o = c .before .before .before .before .before in
+    let e = o .before in
     let a = e .before .before .before .before .before .args in
-    let q = g .q .given .0 .0 in
-    let z = left g in
-    let v : SFits w64 q = omega zsum in
-    (rw (toZ-ofZ w64 q v) at (c .beyond-fwd .ensures)) ∙ walk-left forward (a .words .now) (a .n) (a .block) (a .nodes .now) (a .i) (a .r) (ended (e .before .before)) (near e) q (sym (begun n) ∙ g .q .given .1)
+    (rw (o .earlier .ensures) at (c .past-edge-fwd .ensures))
+    ∙ walk-starts forward (a .words .now) (a .n) (a .block) (a .nodes .now) (a .i) (a .r) (ended (e .before .before)) (near e)
+    (after-edge (c .before) .same)
 
 pub walk-fwd-spec : {M : Type 1} → statement M
 walk-fwd-spec =
@@ -154,13 +161,13 @@ walk-fwd-spec =
     returns-3
     sub-if4
     returns-4
-    div-b
     add-earlier
     mul-earlier
     earlier-requires
-    fwd-search-block-requires
+    edge-fwd-requires
     enum-known-j
     enum-known-q
-    beyond-fwd-requires
+    div-past-edge-fwd
+    past-edge-fwd-requires
     returns-5
     returns-6)
