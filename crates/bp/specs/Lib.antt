@@ -1,1 +1,3 @@
 pub mod Searches
+pub mod Calls
+pub mod Navigation

@@ -5,6 +5,7 @@ pub mod Stretches
 pub mod Built
 pub mod Right
 pub mod Seen
+pub mod Inside
 pub mod Asked
 pub mod Paths
 pub mod Answers

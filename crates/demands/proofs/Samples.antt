@@ -1,0 +1,54 @@
+-- The lists of row T, `(()(()))`, computed; and `()` shows why a level's fall asks for more than two bits.
+--   T-excess, T-tree, T-levels, T-children: T's excess, that it is one tree, its levels, the children of its handles
+--   O-tree, O-level, O-falls: `()` is one tree, its root has level 0, and level_rightmost(0) is nothing
+-- Assumes nothing.
+use mathlib.Core.Path.{_≡_, refl}
+use mathlib.Core.List.{List, [], _∷_}
+use Prim.Native.Nat.{ℕ}
+use lib.IntN.{pos}
+use Rattle.ints.specs.Order.{eqZ}
+use Rattle.row.specs.Excess.{sign, excess, E}
+use Rattle.row.specs.Search.{least, greatest, fwd, bwd}
+use Rattle.row.specs.Tree.{opens, OneTree, allBelow, oneTree}
+use Rattle.row.proofs.Tree.{oneTree-true}
+use Rattle.bp.specs.Calls.{ones, levelRightmost, lastStart}
+use Rattle.bp.specs.Navigation.{rightmostDefined}
+use Rattle.demands.specs.Questions.{levelPrev, levelRightmost as rightmost, definition}
+use Rattle.demands.specs.Listing.{those, Names}
+use Rattle.demands.specs.Handles.{atDepth, childOf, level, children}
+
+abbrev pub T : List ℕ
+T = 27 ∷ []
+
+abbrev pub O : List ℕ
+O = 1 ∷ []
+
+pub T-excess : (E T 0 ∷ E T 1 ∷ E T 2 ∷ E T 3 ∷ E T 4 ∷ E T 5 ∷ E T 6 ∷ E T 7 ∷ E T 8 ∷ [])
+    ≡ (pos 0 ∷ pos 1 ∷ pos 2 ∷ pos 1 ∷ pos 2 ∷ pos 3 ∷ pos 2 ∷ pos 1 ∷ pos 0 ∷ [])
+unfolding excess sign
+T-excess = refl
+
+pub T-tree : OneTree T 8
+unfolding oneTree allBelow excess sign eqZ
+T-tree = oneTree-true T 8 refl
+
+pub T-levels : (level T 8 0 ∷ level T 8 1 ∷ level T 8 2 ∷ level T 8 3 ∷ []) ≡ ((0 ∷ []) ∷ (1 ∷ 3 ∷ []) ∷ (4 ∷ []) ∷ [] ∷ [])
+unfolding those atDepth opens excess sign eqZ
+T-levels = refl
+
+pub T-children : (children T 8 0 ∷ children T 8 1 ∷ children T 8 3 ∷ children T 8 4 ∷ []) ≡ ((1 ∷ 3 ∷ []) ∷ [] ∷ (4 ∷ []) ∷ [] ∷ [])
+unfolding those childOf atDepth opens excess sign eqZ fwd least
+T-children = refl
+
+pub O-tree : OneTree O 2
+unfolding oneTree allBelow excess sign eqZ
+O-tree = oneTree-true O 2 refl
+
+pub O-level : level O 2 0 ≡ 0 ∷ []
+unfolding those atDepth opens excess sign eqZ
+O-level = refl
+
+-- nothing at once, though the root stands at depth 0
+pub O-falls : Names (definition O 2) levelPrev (rightmost 0) []
+unfolding rightmostDefined levelRightmost ones lastStart excess sign eqZ bwd greatest
+O-falls = refl

@@ -1,0 +1,94 @@
+-- Demand 3. Answers that are the definitions' tour one tree as it asks: each listing is `rises` or `falls` at the next and the last handle of
+-- a depth (Levels) or child (Children); over nodes as built the calls' answers are the definitions' (Second).
+--   passed, on-handle: a definition on a handle is not refused; shallow: no handle has a depth past the deepest
+--   tours-defined: any answers that are the definitions'; third: the demand
+-- Assumes nothing.
+use mathlib.Core.Path.{_≡_, refl, sym, _∙_}
+use mathlib.Core.Bool.{false}
+use mathlib.Core.List.{List}
+use Prim.Native.Nat.{ℕ}
+use native.Mathlib.Omega.{arith}
+use lib.IntN.{pos}
+use lib.Signed.{_<ℤ_}
+use Rattle.ints.proofs.Linear.{never-true}
+use Rattle.ints.proofs.Shapes.{zsum}
+use Rattle.row.specs.Answer.{Answer}
+use Rattle.row.specs.Excess.{E}
+use Rattle.row.specs.Gates.{handleGate, through}
+use Rattle.row.specs.Tree.{OneTree}
+use Rattle.mmt.specs.Build.{builtNodes}
+use Rattle.bp.specs.Calls as call
+use Rattle.bp.specs.Calls.{Searches, defined}
+use Rattle.bp.specs.Navigation.{nodeDefined, rightmostDefined}
+use Rattle.demands.specs.Questions.{Question, parent, firstChild, lastChild, nextSibling, previousSibling, levelNext, levelPrev, levelLeftmost, levelRightmost, promised, definition}
+use Rattle.demands.specs.Handles.{Handle, atDepth, childOf}
+use Rattle.demands.specs.Third.{Tours, Third}
+use Rattle.demands.proofs.Nexts.{next-none}
+use Rattle.demands.proofs.Named.{rises, falls}
+use Rattle.demands.proofs.Exact.{among, among-has, exact, none-those}
+use Rattle.demands.proofs.Turns.{stands, not-depth, opens-low}
+use Rattle.demands.proofs.Closing.{closing}
+use Rattle.demands.proofs.Levels.{leftmost, rightmost, level-next, level-prev}
+use Rattle.demands.proofs.Children.{kid, first-child, next-sibling, last-child, previous-sibling}
+use Rattle.demands.proofs.Parents.{parent-of, root-no-child}
+use Rattle.demands.proofs.Second.{second}
+
+module _ (ws : List ℕ) (n : ℕ) where
+  -- a handle is not refused
+  passed : (v : ℕ) (a : Answer) → Handle ws n v → through (handleGate ws n v) a ≡ a
+  unfolding handleGate
+  passed v a o = rw o
+
+  on-handle : (c : List ℕ → ℕ → Searches → ℕ → Answer) (v : ℕ) → Handle ws n v → nodeDefined c ws n v ≡ c ws n (defined ws n) v
+  unfolding nodeDefined
+  on-handle c v o = passed v (c ws n (defined ws n) v) o
+
+  -- no handle has the depth
+  shallow : (k : ℕ) → ((v : ℕ) → Handle ws n v → E ws v <ℤ pos k) → (v : ℕ) → atDepth ws n (pos k) v ≡ false
+  shallow k f v = not-depth ws n (pos k) v (λ s. let l = f v (s .open-is) in omega zsum)
+
+  module _ (t : OneTree ws n) (ask : Question → Answer) (is : (q : Question) → ask q ≡ definition ws n q) where
+    by : (q : Question) (c : List ℕ → ℕ → Searches → ℕ → Answer) (v : ℕ) → definition ws n q ≡ nodeDefined c ws n v → Handle ws n v
+        → ask q ≡ c ws n (defined ws n) v
+    by q c v e o = is q ∙ e ∙ on-handle c v o
+
+    pub tours-defined : Tours ws n ask
+    unfolding rightmostDefined
+    tours-defined = record {
+      level-rises = λ k. rises (atDepth ws n (pos k)) ask levelNext n (levelLeftmost k) (is (levelLeftmost k) ∙ leftmost ws n t k)
+          (λ v h. by (levelNext v) call.levelNext v refl (stands ws n (pos k) v h .open-is) ∙ level-next ws n t (pos k) v h);
+      level-falls = λ l k. falls (atDepth ws n (pos k)) ask levelPrev n (levelRightmost k) (is (levelRightmost k) ∙ rightmost ws n t k l)
+          (λ v h. by (levelPrev v) call.levelPrev v refl (stands ws n (pos k) v h .open-is) ∙ level-prev ws n t (pos k) v h);
+      too-deep = λ k f. (
+        none-those (atDepth ws n (pos k)) n 0 (λ v a b. shallow k f v),
+        is (levelLeftmost k) ∙ leftmost ws n t k ∙ next-none (atDepth ws n (pos k)) n 0 (λ v a b. shallow k f v),
+      );
+      children-rise = λ v o.
+          let (e, d) = closing ws n t v o in
+          rises (childOf ws n v) ask nextSibling n (firstChild v)
+          (is (firstChild v) ∙ passed v (call.firstChild ws n v) o ∙ first-child ws n t v e o d)
+          (λ w h. by (nextSibling w) call.nextSibling w refl (kid ws n t v e o d w h .open-is) ∙ next-sibling ws n t v e o d w h);
+      children-fall = λ v o.
+          let (e, d) = closing ws n t v o in
+          falls (childOf ws n v) ask previousSibling n (lastChild v) (by (lastChild v) call.lastChild v refl o ∙ last-child ws n t v e o d)
+          (λ w h. by (previousSibling w) call.previousSibling w refl (kid ws n t v e o d w h .open-is) ∙ previous-sibling ws n t v e o d w h);
+      one-parent = λ w o h.
+          let (u, p) = parent-of ws n t w o h in
+          let l = opens-low ws n w o in (
+            u,
+            record {
+              handle = p .open-is;
+              child = among (childOf ws n u) w n 0 (omega arith) (omega arith) (p .child);
+              only = λ v q m. p .only v q (among-has (childOf ws n v) w n 0 m .passes);
+              named = by (parent w) call.parent w refl o ∙ p .is;
+            },
+          );
+      root-none = λ v m. never-true (sym (root-no-child ws n t v) ∙ among-has (childOf ws n v) 0 n 0 m .passes);
+    }
+
+pub third : Third
+third = record {
+  lists = λ ws n. record { of-level = λ k. exact (atDepth ws n (pos k)) n; of-children = λ v. exact (childOf ws n v) n };
+  over-built = λ ws n s B fine t. tours-defined ws n t (promised ws n (builtNodes ws n s B) B) (second .over-built ws n s B fine .equal);
+  over-alike = λ ws n s B fine t built. tours-defined ws n t (promised ws n s B) (second .over-alike ws n s B fine built .equal);
+}

@@ -1,0 +1,60 @@
+-- Cases a to l of document 01's small rows, as one table with one claim.
+-- Assumes nothing.
+use mathlib.Core.Path.{_≡_}
+use mathlib.Core.List.{List, [], _∷_, map}
+use Prim.Native.Nat.{ℕ}
+use lib.IntN.{pos, negsuc}
+use Rattle.row.specs.Answer.{Answer, at, nothing}
+use Rattle.mmt.specs.Nodes.{written}
+use Rattle.demands.specs.Questions.{Question, fwdSearch, bwdSearch, enclose, levelAncestor, levelNext, levelPrev, levelRightmost, promised, definition}
+
+-- a row of n bits, a question on it, and the answer that it is to have
+pub record Case : Type 0 where
+  pub words : List ℕ
+  pub bits : ℕ
+  pub question : Question
+  pub answer : Answer
+
+-- row T is `(()(()))`: bits 1, 1, 0, 1, 1, 0, 0, 0, the first least significant
+abbrev pub onT : Question → Answer → Case
+onT q a = record { words = 27 ∷ []; bits = 8; question = q; answer = a }
+
+-- row `()`: bits 1, 0
+abbrev pub onPair : Question → Answer → Case
+onPair q a = record { words = 1 ∷ []; bits = 2; question = q; answer = a }
+
+-- j and l have two questions each
+unfoldable pub table : List Case
+table =
+    -- a, b, c, d
+    onT (fwdSearch 0 (negsuc 0)) (at 7)
+    ∷ onT (fwdSearch 0 (pos 1)) (at 1)
+    ∷ onT (fwdSearch 2 (pos 0)) (at 6)
+    ∷ onT (fwdSearch 7 (negsuc 0)) nothing
+    -- e, f
+    ∷ onT (bwdSearch 7 (pos 0)) (at 3)
+    ∷ onT (bwdSearch 4 (pos 1)) nothing
+    -- g, h, i
+    ∷ onT (enclose 6) (at 0)
+    ∷ onT (levelNext 1) (at 3)
+    ∷ onT (levelPrev 3) (at 1)
+    -- j
+    ∷ onT (levelAncestor 4 2) (at 0)
+    ∷ onT (levelAncestor 4 3) nothing
+    -- k, l
+    ∷ onT (levelRightmost 2) (at 4)
+    ∷ onT (levelRightmost 0) (at 0)
+    ∷ onPair (levelRightmost 0) nothing
+    ∷ []
+
+-- what the definition gives for a case, and what the call gives over the nodes that a build writes for blocks of 8
+abbrev pub given : Case → Answer × Answer
+given c = (definition (c .words) (c .bits) (c .question), promised (c .words) (c .bits) (written (c .words) (c .bits) 8) 8 (c .question))
+
+-- what both are to be
+abbrev pub wanted : Case → Answer × Answer
+wanted c = (c .answer, c .answer)
+
+-- the claim: in every case both are the answer of the table
+abbrev pub Claim : Type 0
+Claim = map given table ≡ map wanted table

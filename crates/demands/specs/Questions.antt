@@ -1,0 +1,77 @@
+-- The public calls as questions: what each promises to answer, over any words, nodes and block size, and what document 01 defines.
+-- The two tests, the build and the text reader stand by themselves in the demands.
+-- Assumes nothing.
+use mathlib.Core.List.{List}
+use Prim.Native.Nat.{ℕ}
+use lib.IntN.{ℤ, negsuc}
+use lib.ListN.{length}
+use Rattle.row.specs.Answer.{Answer}
+use Rattle.row.specs.Gates.{rowGate, handleGate, through}
+use Rattle.row.specs.Search as search
+use Rattle.bp.specs.Searches.{fwdAnswer, bwdAnswer, outward}
+use Rattle.bp.specs.Calls as call
+use Rattle.bp.specs.Calls.{defined}
+use Rattle.bp.specs.Navigation.{handleAnswer, nodeAnswer, nodeDefined, ancestorAnswer, ancestorDefined, levelAnswer, rightmostAnswer, rightmostDefined}
+
+-- a call and what it is asked: a position and an excess r, a position, a handle, two handles, a handle and a level, a level
+pub data Question : Type 0 where
+  fwdSearch : ℕ → ℤ → Question
+  bwdSearch : ℕ → ℤ → Question
+  closeOf : ℕ → Question
+  openOf : ℕ → Question
+  enclose : ℕ → Question
+  root : Question
+  parent : ℕ → Question
+  firstChild : ℕ → Question
+  lastChild : ℕ → Question
+  nextSibling : ℕ → Question
+  previousSibling : ℕ → Question
+  isLeaf : ℕ → Question
+  isAncestor : ℕ → ℕ → Question
+  levelAncestor : ℕ → ℕ → Question
+  levelNext : ℕ → Question
+  levelPrev : ℕ → Question
+  levelLeftmost : ℕ → Question
+  levelRightmost : ℕ → Question
+
+-- what the call promises to answer for the words ws with n bits, the node numbers s and the block size B
+abbrev pub promised : List ℕ → ℕ → List ℤ → ℕ → Question → Answer
+promised ws n s B (fwdSearch i r) = fwdAnswer ws n s B i r
+promised ws n s B (bwdSearch i r) = bwdAnswer ws n s B i r
+promised ws n s B (closeOf i) = fwdAnswer ws n s B i (negsuc 0)
+promised ws n s B (openOf i) = bwdAnswer ws n s B i (negsuc 0)
+promised ws n s B (enclose i) = bwdAnswer ws n s B i (outward ws n i)
+promised ws n s B root = through (rowGate (length ws) n) (call.root n)
+promised ws n s B (parent v) = nodeAnswer call.parent ws n s B v
+promised ws n s B (firstChild v) = handleAnswer call.firstChild ws n v
+promised ws n s B (lastChild v) = nodeAnswer call.lastChild ws n s B v
+promised ws n s B (nextSibling v) = nodeAnswer call.nextSibling ws n s B v
+promised ws n s B (previousSibling v) = nodeAnswer call.previousSibling ws n s B v
+promised ws n s B (isLeaf v) = handleAnswer call.isLeaf ws n v
+promised ws n s B (isAncestor a d) = ancestorAnswer ws n s B a d
+promised ws n s B (levelAncestor v k) = nodeAnswer (call.levelAncestor k) ws n s B v
+promised ws n s B (levelNext v) = nodeAnswer call.levelNext ws n s B v
+promised ws n s B (levelPrev v) = nodeAnswer call.levelPrev ws n s B v
+promised ws n s B (levelLeftmost k) = levelAnswer call.levelLeftmost ws n s B k
+promised ws n s B (levelRightmost k) = rightmostAnswer ws n s B k
+
+-- what document 01 defines on a row of n bits; a call on a handle refuses what is none
+abbrev pub definition : List ℕ → ℕ → Question → Answer
+definition ws n (fwdSearch i r) = search.fwd ws n i r
+definition ws n (bwdSearch i r) = search.bwd ws n i r
+definition ws n (closeOf i) = search.fwd ws n i (negsuc 0)
+definition ws n (openOf i) = search.bwd ws n i (negsuc 0)
+definition ws n (enclose i) = search.bwd ws n i (outward ws n i)
+definition ws n root = call.root n
+definition ws n (parent v) = nodeDefined call.parent ws n v
+definition ws n (firstChild v) = through (handleGate ws n v) (call.firstChild ws n v)
+definition ws n (lastChild v) = nodeDefined call.lastChild ws n v
+definition ws n (nextSibling v) = nodeDefined call.nextSibling ws n v
+definition ws n (previousSibling v) = nodeDefined call.previousSibling ws n v
+definition ws n (isLeaf v) = through (handleGate ws n v) (call.isLeaf ws n v)
+definition ws n (isAncestor a d) = ancestorDefined ws n a d
+definition ws n (levelAncestor v k) = nodeDefined (call.levelAncestor k) ws n v
+definition ws n (levelNext v) = nodeDefined call.levelNext ws n v
+definition ws n (levelPrev v) = nodeDefined call.levelPrev ws n v
+definition ws n (levelLeftmost k) = call.levelLeftmost ws n (defined ws n) k
+definition ws n (levelRightmost k) = rightmostDefined ws n k

@@ -1,0 +1,53 @@
+-- Demand 3: on one balanced tree with its built nodes, asked with the block size it was built with: leftmost and then next names exactly the
+-- nodes of a level, each once, rising; rightmost and then previous the same in reverse (two nodes at least); a child listing names exactly
+-- the children, once each, and every node but the root stands in exactly one.
+-- Assumes nothing.
+use mathlib.Core.Path.{_≡_}
+use mathlib.Core.List.{List, [], reverse}
+use Prim.Native.Nat.{ℕ, _<_}
+use lib.IntN.{ℤ, pos}
+use lib.ListN.{length}
+use lib.Signed.{_<ℤ_}
+use Rattle.row.specs.Answer.{Answer, at, nothing}
+use Rattle.row.specs.Excess.{E}
+use Rattle.row.specs.Tree.{OneTree}
+use Rattle.mmt.specs.Layout.{Fine}
+use Rattle.mmt.specs.Nodes.{AsBuilt}
+use Rattle.mmt.specs.Build.{builtNodes}
+use Rattle.demands.specs.Questions.{Question, parent, firstChild, lastChild, nextSibling, previousSibling, levelNext, levelPrev, levelLeftmost, levelRightmost, promised}
+use Rattle.demands.specs.Listing.{Names, Among, Exactly}
+use Rattle.demands.specs.Handles.{Handle, atDepth, childOf, level, children}
+
+-- what a level and a listing of children hold: exactly the handles of that depth, exactly the children, each once, rising
+pub record Lists (ws : List ℕ) (n : ℕ) : Type 0 where
+  pub of-level : (k : ℕ) → Exactly (atDepth ws n (pos k)) n (level ws n k)
+  pub of-children : (v : ℕ) → Exactly (childOf ws n v) n (children ws n v)
+
+-- u is the one handle among whose children w stands, and the parent that is named
+pub record ParentOf (ws : List ℕ) (n : ℕ) (ask : Question → Answer) (w u : ℕ) : Type 0 where
+  pub handle : Handle ws n u
+  pub child : Among w (children ws n u)
+  pub only : (v : ℕ) → Handle ws n v → Among w (children ws n v) → v ≡ u
+  pub named : ask (parent w) ≡ at u
+
+-- what the answers to questions on a row that is one tree are to be
+pub record Tours (ws : List ℕ) (n : ℕ) (ask : Question → Answer) : Type 0 where
+  -- a level from the left; from the right, where the tree has two nodes at least and so more than two bits
+  pub level-rises : (k : ℕ) → Names ask levelNext (levelLeftmost k) (level ws n k)
+  pub level-falls : 2 < n → (k : ℕ) → Names ask levelPrev (levelRightmost k) (reverse (level ws n k))
+  -- a level past the deepest has none
+  pub too-deep : (k : ℕ) → ((v : ℕ) → Handle ws n v → E ws v <ℤ pos k) → (level ws n k ≡ []) × (ask (levelLeftmost k) ≡ nothing)
+  -- the children of a handle, from the left and from the right
+  pub children-rise : (v : ℕ) → Handle ws n v → Names ask nextSibling (firstChild v) (children ws n v)
+  pub children-fall : (v : ℕ) → Handle ws n v → Names ask previousSibling (lastChild v) (reverse (children ws n v))
+  -- every handle but the root stands among the children of exactly one, its parent; the root among nobody's
+  pub one-parent : (w : ℕ) → Handle ws n w → 0 < w → (u : ℕ) × ParentOf ws n ask w u
+  pub root-none : (v : ℕ) → Among 0 (children ws n v) → ⊥
+
+-- the demand: over the nodes that a build wrote, and over any that are the same
+pub record Third : Type 0 where
+  pub lists : (ws : List ℕ) (n : ℕ) → Lists ws n
+  pub over-built : (ws : List ℕ) (n : ℕ) (s : List ℤ) (B : ℕ) → Fine (length ws) n (length s) B → OneTree ws n
+      → Tours ws n (promised ws n (builtNodes ws n s B) B)
+  pub over-alike : (ws : List ℕ) (n : ℕ) (s : List ℤ) (B : ℕ) → Fine (length ws) n (length s) B → OneTree ws n → AsBuilt ws n B s
+      → Tours ws n (promised ws n s B)
