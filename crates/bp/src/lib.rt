@@ -6,6 +6,7 @@ mod level;
 mod node;
 mod search;
 
+pub use gate::admit_node;
 pub use level::level_ancestor;
 pub use level::level_leftmost;
 pub use level::level_next;

@@ -14,6 +14,7 @@ pub mod Ordered
 pub mod Equal
 pub mod First
 pub mod Second
+pub mod Listings
 pub mod Third
 pub mod Cases
 pub mod Samples

@@ -1,27 +1,31 @@
 -- Demand 3. Answers that are the definitions' tour one tree as it asks: each listing is `rises` or `falls` at the next and the last handle of
 -- a depth (Levels) or child (Children); over nodes as built the calls' answers are the definitions' (Second).
 --   passed, on-handle: a definition on a handle is not refused; shallow: no handle has a depth past the deepest
---   tours-defined: any answers that are the definitions'; third: the demand
+--   tours-defined: any answers that are the definitions'; alike: those over nodes as built; third: the demand
 -- Assumes nothing.
 use mathlib.Core.Path.{_≡_, refl, sym, _∙_}
-use mathlib.Core.Bool.{false}
-use mathlib.Core.List.{List}
+use mathlib.Core.Bool.{true, false}
+use mathlib.Core.List.{List, reverse}
 use Prim.Native.Nat.{ℕ}
 use native.Mathlib.Omega.{arith}
-use lib.IntN.{pos}
+use lib.IntN.{ℤ, pos}
+use lib.ListN.{length}
 use lib.Signed.{_<ℤ_}
+use denote.Ref.{now}
 use Rattle.ints.proofs.Linear.{never-true}
 use Rattle.ints.proofs.Shapes.{zsum}
 use Rattle.row.specs.Answer.{Answer}
 use Rattle.row.specs.Excess.{E}
 use Rattle.row.specs.Gates.{handleGate, through}
 use Rattle.row.specs.Tree.{OneTree}
+use Rattle.mmt.specs.Layout.{Fine}
+use Rattle.mmt.specs.Nodes.{AsBuilt}
 use Rattle.mmt.specs.Build.{builtNodes}
 use Rattle.bp.specs.Calls as call
 use Rattle.bp.specs.Calls.{Searches, defined}
 use Rattle.bp.specs.Navigation.{nodeDefined, rightmostDefined}
 use Rattle.demands.specs.Questions.{Question, parent, firstChild, lastChild, nextSibling, previousSibling, levelNext, levelPrev, levelLeftmost, levelRightmost, promised, definition}
-use Rattle.demands.specs.Handles.{Handle, atDepth, childOf}
+use Rattle.demands.specs.Handles.{Handle, atDepth, childOf, children}
 use Rattle.demands.specs.Third.{Tours, Third}
 use Rattle.demands.proofs.Nexts.{next-none}
 use Rattle.demands.proofs.Named.{rises, falls}
@@ -32,6 +36,7 @@ use Rattle.demands.proofs.Levels.{leftmost, rightmost, level-next, leve
 use Rattle.demands.proofs.Children.{kid, first-child, next-sibling, last-child, previous-sibling}
 use Rattle.demands.proofs.Parents.{parent-of, root-no-child}
 use Rattle.demands.proofs.Second.{second}
+use Rattle.demands.proofs.Listings.{made-named, steps-named}
 
 module _ (ws : List ℕ) (n : ℕ) where
   -- a handle is not refused
@@ -86,9 +91,21 @@ module _ (ws : List ℕ) (n : ℕ) where
       root-none = λ v m. never-true (sym (root-no-child ws n t v) ∙ among-has (childOf ws n v) 0 n 0 m .passes);
     }
 
+alike : (ws : List ℕ) (n : ℕ) (s : List ℤ) (B : ℕ) → Fine (length ws) n (length s) B → OneTree ws n → AsBuilt ws n B s
+    → Tours ws n (promised ws n s B)
+alike ws n s B fine t built = tours-defined ws n t (promised ws n s B) (second .over-alike ws n s B fine built .equal)
+
 pub third : Third
 third = record {
   lists = λ ws n. record { of-level = λ k. exact (atDepth ws n (pos k)) n; of-children = λ v. exact (childOf ws n v) n };
   over-built = λ ws n s B fine t. tours-defined ws n t (promised ws n (builtNodes ws n s B) B) (second .over-built ws n s B fine .equal);
-  over-alike = λ ws n s B fine t built. tours-defined ws n t (promised ws n s B) (second .over-alike ws n s B fine built .equal);
+  over-alike = alike;
+  listings = λ ws n s B fine t built.
+      let tour = alike (now ws) n (now s) B fine t built in
+      record {
+        made-rising = λ v o. made-named true ws n s B fine v (children (now ws) n v) (tour .children-rise v o);
+        rising = λ v o. steps-named true ws n s B fine v (children (now ws) n v) (tour .children-rise v o);
+        made-falling = λ v o. made-named false ws n s B fine v (reverse (children (now ws) n v)) (tour .children-fall v o);
+        falling = λ v o. steps-named false ws n s B fine v (reverse (children (now ws) n v)) (tour .children-fall v o);
+      };
 }

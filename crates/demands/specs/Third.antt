@@ -3,17 +3,21 @@
 -- the children, once each, and every node but the root stands in exactly one.
 -- Assumes nothing.
 use mathlib.Core.Path.{_≡_}
+use mathlib.Core.Bool.{true, false}
 use mathlib.Core.List.{List, [], reverse}
 use Prim.Native.Nat.{ℕ, _<_}
 use lib.IntN.{ℤ, pos}
 use lib.ListN.{length}
 use lib.Signed.{_<ℤ_}
+use denote.Ref.{RefT, now}
 use Rattle.row.specs.Answer.{Answer, at, nothing}
 use Rattle.row.specs.Excess.{E}
 use Rattle.row.specs.Tree.{OneTree}
 use Rattle.mmt.specs.Layout.{Fine}
 use Rattle.mmt.specs.Nodes.{AsBuilt}
 use Rattle.mmt.specs.Build.{builtNodes}
+use Rattle.listing.specs.Listing.{made}
+use Rattle.listing.specs.Steps.{answerAt, nth}
 use Rattle.demands.specs.Questions.{Question, parent, firstChild, lastChild, nextSibling, previousSibling, levelNext, levelPrev, levelLeftmost, levelRightmost, promised}
 use Rattle.demands.specs.Listing.{Names, Among, Exactly}
 use Rattle.demands.specs.Handles.{Handle, atDepth, childOf, level, children}
@@ -44,6 +48,14 @@ pub record Tours (ws : List ℕ) (n : ℕ) (ask : Question → Answer) : Type 0 
   pub one-parent : (w : ℕ) → Handle ws n w → 0 < w → (u : ℕ) × ParentOf ws n ask w u
   pub root-none : (v : ℕ) → Among 0 (children ws n v) → ⊥
 
+-- what a child listing and its steps answer, made over a borrowed view of the row and the nodes: it is made, and step k, counted from 0,
+-- answers child k; past the last child, nothing
+pub record Listings (ws : RefT (List ℕ)) (n : ℕ) (s : RefT (List ℤ)) (B : ℕ) : Type 0 where
+  pub made-rising : (v : ℕ) → Handle (now ws) n v → made true ws n s B v .answer ≡ at 0
+  pub rising : (v : ℕ) → Handle (now ws) n v → (k : ℕ) → answerAt k (made true ws n s B v .listing) ≡ nth (children (now ws) n v) k
+  pub made-falling : (v : ℕ) → Handle (now ws) n v → made false ws n s B v .answer ≡ at 0
+  pub falling : (v : ℕ) → Handle (now ws) n v → (k : ℕ) → answerAt k (made false ws n s B v .listing) ≡ nth (reverse (children (now ws) n v)) k
+
 -- the demand: over the nodes that a build wrote, and over any that are the same
 pub record Third : Type 0 where
   pub lists : (ws : List ℕ) (n : ℕ) → Lists ws n
@@ -51,3 +63,5 @@ pub record Third : Type 0 where
       → Tours ws n (promised ws n (builtNodes ws n s B) B)
   pub over-alike : (ws : List ℕ) (n : ℕ) (s : List ℤ) (B : ℕ) → Fine (length ws) n (length s) B → OneTree ws n → AsBuilt ws n B s
       → Tours ws n (promised ws n s B)
+  pub listings : (ws : RefT (List ℕ)) (n : ℕ) (s : RefT (List ℤ)) (B : ℕ) → Fine (length (now ws)) n (length (now s)) B → OneTree (now ws) n
+      → AsBuilt (now ws) n B (now s) → Listings ws n s B

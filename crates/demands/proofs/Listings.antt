@@ -1,0 +1,76 @@
+-- A child listing and its steps name what the calls that it goes by name, one after another.
+--   held-next: what a step leaves held; named: the steps from an answer on
+--   first-sought: what a making seeks; made-named, steps-named: a listing that is made, and its steps
+-- Assumes nothing.
+use mathlib.Core.Path.{_≡_, refl, sym, ap, _∙_}
+use mathlib.Core.Bool.{Bool, true, false}
+use mathlib.Core.List.{List, [], _∷_}
+use Prim.Native.Nat.{ℕ, zero, suc}
+use native.Mathlib.Omega.{arith}
+use lib.IntN.{ℤ}
+use lib.ListN.{length}
+use denote.Ref.{RefT, now}
+use Rattle.row.specs.Answer.{Answer, at, nothing}
+use Rattle.row.specs.Gates.{rowGate}
+use Rattle.row.proofs.Gates.{row-open}
+use Rattle.mmt.specs.Layout.{Fine}
+use Rattle.mmt.proofs.Admitted.{fine-gate}
+use Rattle.bp.specs.Navigation.{handleAnswer, nodeAnswer}
+use Rattle.listing.specs.Listing.{Listing, sought, making, begun, after, made}
+use Rattle.listing.specs.Steps.{answerAt, nth}
+use Rattle.listing.proofs.Sequence.{ended}
+use Rattle.demands.specs.Questions.{Question, firstChild, lastChild, nextSibling, previousSibling, promised}
+use Rattle.demands.specs.Listing.{Names}
+
+-- the questions by which a listing starts and goes on
+abbrev pub starting : Bool → ℕ → Question
+starting true = firstChild
+starting false = lastChild
+
+abbrev pub sibling : Bool → ℕ → Question
+sibling true = nextSibling
+sibling false = previousSibling
+
+module _ (rising : Bool) (ws : RefT (List ℕ)) (n : ℕ) (s : RefT (List ℤ)) (B : ℕ) where
+  abbrev ask : Question → Answer
+  ask = promised (now ws) n (now s) B
+
+  -- the listing that holds a
+  abbrev with : Answer → Listing
+  with a = record { words = ws; n = n; nodes = s; block = B; rising = rising; held = a }
+
+  held-next : (r : Bool) (v : ℕ) → after r (now ws) n (now s) B (at v) ≡ ask (sibling r v)
+  held-next true v = refl
+  held-next false v = refl
+
+  named : (l : List ℕ) (k : ℕ) (q : Question) → Names ask (sibling rising) q l → answerAt k (with (ask q)) ≡ nth l k
+  unfolding answerAt
+  named [] zero q e = e
+  named [] (suc k) q e = ended (with (ask q)) (suc k) 0 (omega arith) e
+  named (v ∷ l) zero q e = e .0
+  named (v ∷ l) (suc k) q e =
+      ap (λ (a : Answer). answerAt k (with (after rising (now ws) n (now s) B a))) (e .0)
+      ∙ ap (λ (a : Answer). answerAt k (with a)) (held-next rising v)
+      ∙ named l k (sibling rising v) (e .1)
+
+  -- what is named is not refused
+  begun-named : (l : List ℕ) (q : Question) → Names ask (sibling rising) q l → (making (ask q) ≡ at 0) × (begun (ask q) ≡ ask q)
+  begun-named [] q e = (ap making e, ap begun e ∙ sym e)
+  begun-named (v ∷ l) q e = (ap making (e .0), ap begun (e .0) ∙ sym (e .0))
+
+  module _ (fine : Fine (length (now ws)) n (length (now s)) B) (v : ℕ) where
+    first-sought : (r : Bool) → sought r (now ws) n (now s) B v ≡ ask (starting r v)
+    unfolding sought handleAnswer nodeAnswer
+    first-sought true =
+        let w = fine .words in
+        rw (fine-gate (length (now ws)) n (length (now s)) B fine, sym (row-open (length (now ws)) n (fine .short) (omega arith)))
+    first-sought false = refl
+
+    module _ (l : List ℕ) (e : Names ask (sibling rising) (starting rising v) l) where
+      pub made-named : made rising ws n s B v .answer ≡ at 0
+      made-named = ap making (first-sought rising) ∙ begun-named l (starting rising v) e .0
+
+      pub steps-named : (k : ℕ) → answerAt k (made rising ws n s B v .listing) ≡ nth l k
+      steps-named k =
+          ap (λ (a : Answer). answerAt k (with a)) (ap begun (first-sought rising) ∙ begun-named l (starting rising v) e .1)
+          ∙ named l k (starting rising v) e

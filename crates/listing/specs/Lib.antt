@@ -1,0 +1,4 @@
+pub mod Listing
+pub mod Paper
+pub mod Steps
+pub mod Whole
