@@ -1,0 +1,92 @@
+-- What the calls over decoded words and numbers answer.
+--   may-small, search-small: a position that is answered is below 2^32
+--   built-open, built-shut: what a build says of its tests; bytes-open, bytes-shut: what it leaves
+--   lent, lent-few, same: what is decoded is what the promise names
+-- Assumes nothing.
+use mathlib.Core.Path.{_≡_, refl, sym, ap, _∙_}
+use mathlib.Core.List.{List, [], _∷_}
+use Prim.Native.Nat.{ℕ, _*_, _≤_}
+use native.Mathlib.Omega.{arith}
+use lib.IntN.{ℤ}
+use lib.ListN.{length, take, drop}
+use lib.Seq.{length-take-le, take-at}
+use Rattle.row.specs.declared.gate.Gate.{Gate}
+use Rattle.row.specs.declared.gate.Gate.the-variants.{Open, Shut}
+use Rattle.row.specs.Answer.{Answer, at, nothing, refused}
+use Rattle.row.specs.Gates.{through, kept}
+use Rattle.row.specs.Way.{Way}
+use Rattle.mmt.specs.Layout.{width, count, nodesGate}
+use Rattle.mmt.specs.Nodes.{written}
+use Rattle.mmt.specs.Build.{builtNodes}
+use Rattle.mmt.proofs.Admitted.{gate-fine}
+use Rattle.mmt.proofs.Written.{written-length}
+use Rattle.walk.specs.Walk.{walk}
+use Rattle.bp.specs.Searches.{searchAnswer}
+use Rattle.demands.specs.First.{May}
+use Rattle.demands.proofs.Walked.{walk-may}
+use Rattle.wire.specs.Answer.{Small}
+use Rattle.wire.specs.Bytes.{made, numbersOver}
+use Rattle.wire.proofs.Runs.{length-made}
+use Rattle.capi.specs.Calls.{leftBytes}
+
+-- ---- positions
+may-small : (n : ℕ) (l : List ℕ) (a : Answer) → n ≤ 4294967296 → May n l a → Small a
+may-small n l (at x) h m = omega arith
+may-small n l nothing h m = tt
+may-small n l (refused k) h m = tt
+
+pub search-small : (w : Way) (ws : List ℕ) (n : ℕ) (s : List ℤ) (B i : ℕ) (r : ℤ) → Small (searchAnswer w ws n s B i r)
+unfolding searchAnswer
+search-small w ws n s B i r = go (nodesGate (length ws) n (length s) B) refl
+  where
+    go : (g : Gate) → nodesGate (length ws) n (length s) B ≡ g → Small (through g (walk w ws n B s i r .answer))
+    go Open e = may-small n (8 ∷ []) (walk w ws n B s i r .answer) (gate-fine (length ws) n (length s) B e .short) (walk-may w ws n B s i r)
+    go (Shut k) e = tt
+
+-- ---- a build
+-- 1 for a value
+abbrev valued : Answer → ℕ
+valued (at x) = 1
+valued nothing = 0
+valued (refused k) = 0
+
+pub built-open : (g : Gate) → at 0 ≡ through g (at 0) → g ≡ Open
+built-open Open e = refl
+built-open (Shut k) e = let z : _≡_ {A = ℕ} 1 0 = ap valued e in absurd (omega arith)
+
+pub built-shut : {A : Type 0} (g : Gate) (k : ℕ) (x y : A) → refused k ≡ through g (at 0) → kept g x y ≡ y
+built-shut Open k x y e = let z : _≡_ {A = ℕ} 0 1 = ap valued e in absurd (omega arith)
+built-shut (Shut j) k x y e = refl
+
+module _ (ws : List ℕ) (n B t : ℕ) (bytes : List ℕ) where
+  pub bytes-shut : (k : ℕ) → refused k ≡ through (nodesGate (length ws) n t B) (at 0) → bytes ≡ leftBytes ws n t B bytes
+  unfolding leftBytes
+  bytes-shut k e = sym (built-shut (nodesGate (length ws) n t B) k (numbersOver (written ws n B) bytes) bytes e)
+
+  bytes-passed : nodesGate (length ws) n t B ≡ Open → numbersOver (written ws n B) bytes ≡ leftBytes ws n t B bytes
+  unfolding leftBytes
+  bytes-passed g = rw g
+
+  -- the front of the numbers that were built is what document 01 gives
+  front : (s : List ℤ) → nodesGate (length ws) n (length s) B ≡ Open → take (width * count n B) (builtNodes ws n s B) ≡ written ws n B
+  unfolding builtNodes
+  front s g = rw g (take-at (written ws n B) (drop (width * count n B) s) (width * count n B) (written-length ws n B))
+
+  pub bytes-open : (s z : List ℤ) (c : ℕ) → length s ≡ t → nodesGate (length ws) n t B ≡ Open → z ≡ builtNodes ws n s B
+      → c ≡ width * count n B → numbersOver (take c z) bytes ≡ leftBytes ws n t B bytes
+  bytes-open s z c l g e f =
+      let h : nodesGate (length ws) n (length s) B ≡ Open = ap (λ x. nodesGate (length ws) n x B) l ∙ g in
+      let q : take c z ≡ written ws n B = ap (λ x. take x z) f ∙ ap (take (width * count n B)) e ∙ front s h in
+      ap (λ x. numbersOver x bytes) q ∙ bytes-passed g
+
+-- ---- what is decoded
+-- as much is lent on as was decoded
+pub lent : {A : Type 0} (g : ℕ → A) (l : List A) (c : ℕ) → take c l ≡ made g 0 c → c ≡ length (take c l)
+lent g l c e = sym (ap length e ∙ length-made g 0 c)
+
+pub same : {A B C D : Type 0} (f : A → B → C → D) {a x : A} {b y : B} {c z : C} → a ≡ x → b ≡ y → c ≡ z → f a b c ≡ f x y z
+same f {a = a} {x = x} {b = b} {y = y} {c = c} p q r = ap (λ v. f v b c) p ∙ ap (λ v. f x v c) q ∙ ap (λ v. f x y v) r
+
+-- as many numbers are lent as the promise names
+pub lent-few : {A B : Type 0} (z : List A) (c m : ℕ) (g : ℕ → B) → c ≤ length z → c ≡ m → length (take c z) ≡ length (made g 0 m)
+lent-few z c m g h e = length-take-le c z h ∙ e ∙ sym (length-made g 0 m)

@@ -1,0 +1,88 @@
+-- `bp_build` meets its contract: the words are decoded, the numbers have room in an array. Assumes nothing.
+use mathlib.Core.Path.{sym, ap, _∙_}
+use Prim.Native.Nat.{_*_, _≤_}
+use native.Mathlib.Omega.{arith}
+use lib.ListN.{length}
+use lib.Seq.{length-take-le}
+use mir.Syntax.{w64}
+use mir.ValLaws.{toZ-ofZ}
+use Rattle.row.specs.Answer.{at}
+use Rattle.row.specs.Gates.{through}
+use Rattle.mmt.specs.Layout.{nodesGate}
+use Rattle.wire.specs.Answer.{wireOf}
+use Rattle.wire.specs.Bytes.{wordAt, numberAt, wordsIn}
+use Rattle.capi.specs.Calls.{leftBytes}
+use Rattle.capi.proofs.Passed.{lent, lent-few, same}
+use borrow.Author.Needs.{needs}
+use Rattle.capi.proofs.bp_build.Statement.{statement}
+use Rattle.capi.proofs.bp_build.Tie as tie
+
+slice-aggregate-take-words : tie.Need-slice-aggregate-take-words
+slice-aggregate-take-words c = search needs
+
+take-words-requires : tie.Need-take-words-requires
+take-words-requires c κs = search needs
+
+fitting-requires : tie.Need-fitting-requires
+fitting-requires c κs = search needs
+
+array-share-prefix-words : tie.Need-array-share-prefix-words
+array-share-prefix-words c = search needs
+
+slice-aggregate-build : tie.Need-slice-aggregate-build
+slice-aggregate-build c =
+    let s = c .before .before .before .before .before .before .before .args .row .now in
+    lent (λ j. wordAt s (8 * j)) _ _ (c .before .before .before .take-words .ensures .1)
+
+bits-requires : tie.Need-bits-requires
+bits-requires c κs = search needs
+
+array-borrow-prefix-numbers : tie.Need-array-borrow-prefix-numbers
+array-borrow-prefix-numbers c = search needs
+
+slice-aggregate-build-2 : tie.Need-slice-aggregate-build-2
+slice-aggregate-build-2 c =
+    let h : c .before .before .before .fitting .result ≤ 3069 = omega (arith, c .before .before .before .fitting .ensures) in
+    sym (length-take-le _ _ h)
+
+build-requires : tie.Need-build-requires
+build-requires c κs =
+    let m = c .before .before .before .before .fitting in
+    let h : m .result ≤ 3069 = omega (arith, m .ensures) in
+    let s = c .before .before .before .before .before .before .before .before .before .before .args .nodes .now in
+    let e : 8 * m .result ≤ length s = omega (arith, m .ensures) in
+    rw (length-take-le _ _ h) e
+
+same-length : tie.Need-same-length
+same-length c = search needs
+
+returns : tie.Need-returns
+returns c =
+    let a = c .before .before .before .before .before .before .before .before .before .before .before .before .before .before .args in
+    let w = c .before .before .before .before .before .before .before .before .before .before .take-words .ensures in
+    let m = c .before .before .before .before .before .before .before .before .fitting in
+    let h : m .result ≤ 3069 = omega (arith, m .ensures) in
+    let e = c .before .before .before .build .ensures in
+    let p = w .1 ∙ ap (wordsIn (a .row .now)) (w .0) in
+    let q = c .before .before .before .before .before .before .bits .ensures in
+    let r = lent-few _ (m .result) _ (λ j. numberAt (a .nodes .now) (8 * j)) h (m .ensures) in (
+      toZ-ofZ w64 _ (record { sfits = c .before .before .before .build .ok }) ∙ e .0
+          ∙ same (λ ws n t. wireOf (through (nodesGate (length ws) n t (a .block)) (at 0))) p q r,
+      e .1 ∙ same (λ ws n t. leftBytes ws n t (a .block) (a .nodes .now)) p q r,
+    )
+
+pub bp-build-spec : {M : Type 1} → statement M
+bp-build-spec =
+    tie.close
+    (tie.spec
+    slice-aggregate-take-words
+    take-words-requires
+    fitting-requires
+    array-share-prefix-words
+    slice-aggregate-build
+    bits-requires
+    array-borrow-prefix-numbers
+    slice-aggregate-build-2
+    build-requires
+    same-length
+    returns)

@@ -1,0 +1,104 @@
+-- `capi::call::build` meets its contract: a refusal writes nothing, a build that is done writes its numbers. Assumes nothing.
+use mathlib.Core.Path.{_≡_, refl, sym, ap, _∙_}
+use Prim.Native.Nat.{_≤_}
+use native.Mathlib.Omega.{arith}
+use lib.ListN.{length}
+use lib.Seq.{length-take-le}
+use mir.Syntax.{w64}
+use mir.ValLaws.{toZ-ofZ}
+use Rattle.row.specs.declared.gate.Gate.{Gate}
+use Rattle.row.specs.declared.gate.Gate.the-variants.{Open}
+use Rattle.row.specs.Answer.{at, paperBuilt}
+use Rattle.row.specs.Gates.{through}
+use Rattle.mmt.specs.Layout.{nodesGate}
+use Rattle.mmt.proofs.Admitted.{gate-fine}
+use Rattle.wire.specs.Answer.{wireOf}
+use Rattle.capi.proofs.Passed.{built-open, bytes-open, bytes-shut}
+use borrow.Author.Needs.{needs}
+use Rattle.capi.proofs.call.build.Statement.{statement}
+use Rattle.capi.proofs.call.build.Tie as tie
+
+-- what the tests say
+abbrev gate : tie.After-build → Gate
+gate c =
+    let a = c .before .before .before .before .args in
+    nodesGate (length (a .words .now)) (a .n) (length (a .numbers .now)) (a .block)
+
+-- in the arm that writes, they are passed
+passed : (c : tie.After-enum-told) → gate (c .before .before .before) ≡ Open
+passed c = built-open _ (sym (ap paperBuilt (c .enum-told .given .1)) ∙ c .before .before .before .build .ensures .0)
+
+-- and there are as many numbers as are written
+enough : (c : tie.After-node-numbers) → c .node-numbers .result ≤ length (c .before .before .before .before .build .last .1 .1 .0)
+enough c =
+    let f = gate-fine _ _ _ _ (passed (c .before)) in
+    omega (arith, c .node-numbers .ensures, f .nodes, c .before .before .before .before .build .kept .1 .1 .0)
+
+build-requires : tie.Need-build-requires
+build-requires c κs = search needs
+
+enum-known-k : tie.Need-enum-known-k
+enum-known-k c = search needs
+
+refused-requires : tie.Need-refused-requires
+refused-requires c κs = search needs
+
+enum-told : tie.Need-enum-told
+enum-told c = search needs
+
+node-numbers-requires : tie.Need-node-numbers-requires
+node-numbers-requires c κs = let f = gate-fine _ _ _ _ (passed c) in (f .short, f .eight, f .small)
+
+slice-reshare-prefix-write-numbers : tie.Need-slice-reshare-prefix-write-numbers
+slice-reshare-prefix-write-numbers c = enough c
+
+slice-aggregate-write-numbers : tie.Need-slice-aggregate-write-numbers
+slice-aggregate-write-numbers c = sym (length-take-le _ _ (enough (c .before)))
+
+write-numbers-requires : tie.Need-write-numbers-requires
+write-numbers-requires c κs =
+    let e = c .before .before in
+    let b = e .before .before .before .before in
+    rw (length-take-le _ _ (enough e)) (omega (arith, enough e, b .build .kept .1 .1 .0, b .before .before .before .before .pre))
+
+same-length : tie.Need-same-length
+same-length c = search needs
+
+returns : tie.Need-returns
+returns c =
+    let e = sym (ap paperBuilt (c .before .before .k .given .1)) ∙ c .before .before .before .before .before .build .ensures .0 in
+    (toZ-ofZ w64 _ (record { sfits = c .refused .ok }) ∙ c .refused .ensures ∙ ap wireOf e, bytes-shut _ _ _ _ _ _ e)
+
+same-length-2 : tie.Need-same-length-2
+same-length-2 c = search needs
+
+same-length-3 : tie.Need-same-length-3
+same-length-3 c = search needs
+
+returns-2 : tie.Need-returns-2
+returns-2 c =
+    let w = c .before .before in
+    let e = w .before .before .before in
+    let b = e .before .before .before .before in
+    let g = passed (e .before) in (
+      ap (λ x. wireOf (through x (at 0))) (sym g),
+      w .write-numbers .ensures ∙ bytes-open _ _ _ _ _ _ _ _ refl g (b .build .ensures .1) (e .node-numbers .ensures),
+    )
+
+pub build-spec : {M : Type 1} → statement M
+build-spec =
+    tie.close
+    (tie.spec
+    build-requires
+    enum-known-k
+    refused-requires
+    enum-told
+    node-numbers-requires
+    slice-reshare-prefix-write-numbers
+    slice-aggregate-write-numbers
+    write-numbers-requires
+    same-length
+    returns
+    same-length-2
+    same-length-3
+    returns-2)

@@ -1,0 +1,49 @@
+-- What the four calls answer over bytes, and what a build leaves in them.
+-- Assumes nothing.
+use mathlib.Core.List.{List}
+use Prim.Native.Nat.{ℕ}
+use lib.IntN.{ℤ, negsuc}
+use lib.ListN.{length}
+use Rattle.row.specs.Answer.{at}
+use Rattle.row.specs.Gates.{through, kept}
+use Rattle.mmt.specs.Layout.{nodesGate}
+use Rattle.mmt.specs.Nodes.{written}
+use Rattle.bp.specs.Searches.{fwdAnswer, bwdAnswer, outward}
+use Rattle.bp.specs.Navigation.{ancestorAnswer}
+use Rattle.wire.specs.Answer.{wireOf}
+use Rattle.wire.specs.Limit.{wordRoom, numberRoom, wireBits, fit}
+use Rattle.wire.specs.Bytes.{wordsIn, numbersIn, numbersOver}
+
+-- the words of a row's bytes, at most 64
+abbrev pub rowWords : List ℕ → List ℕ
+rowWords row = wordsIn row (fit (length row) wordRoom)
+
+-- the node numbers of bytes, at most 3,069
+abbrev pub nodeNumbers : List ℕ → List ℤ
+nodeNumbers nodes = numbersIn nodes (fit (length nodes) numberRoom)
+
+-- the bytes s after a build with room for t numbers: those of the numbers that document 01 gives, followed by what stood past them; a
+-- refusal leaves all
+unfoldable pub leftBytes : List ℕ → ℕ → ℕ → ℕ → List ℕ → List ℕ
+leftBytes ws n t B s = kept (nodesGate (length ws) n t B) (numbersOver (written ws n B) s) s
+
+-- a build: 0 where refusals 1 to 4 are passed
+abbrev pub buildWire : List ℕ → ℕ → List ℕ → ℕ → ℤ
+buildWire row bits nodes B = wireOf (through (nodesGate (length (rowWords row)) (wireBits bits) (length (nodeNumbers nodes)) B) (at 0))
+
+-- the bytes after it
+abbrev pub builtBytes : List ℕ → ℕ → List ℕ → ℕ → List ℕ
+builtBytes row bits nodes B = leftBytes (rowWords row) (wireBits bits) (length (nodeNumbers nodes)) B nodes
+
+-- close(i)
+abbrev pub closeWire : List ℕ → ℕ → List ℕ → ℕ → ℕ → ℤ
+closeWire row bits nodes B i = wireOf (fwdAnswer (rowWords row) (wireBits bits) (nodeNumbers nodes) B i (negsuc 0))
+
+-- enclose(i)
+abbrev pub encloseWire : List ℕ → ℕ → List ℕ → ℕ → ℕ → ℤ
+encloseWire row bits nodes B i =
+    wireOf (bwdAnswer (rowWords row) (wireBits bits) (nodeNumbers nodes) B i (outward (rowWords row) (wireBits bits) i))
+
+-- is_ancestor(a, d)
+abbrev pub ancestorWire : List ℕ → ℕ → List ℕ → ℕ → ℕ → ℕ → ℤ
+ancestorWire row bits nodes B a d = wireOf (ancestorAnswer (rowWords row) (wireBits bits) (nodeNumbers nodes) B a d)

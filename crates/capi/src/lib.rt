@@ -1,0 +1,89 @@
+// What the vault's host calls: build, close, enclose and is_ancestor over byte slices and numbers, for rows of up to 4,096 bits.
+//
+// Each decodes what it is lent into arrays, as much as fits: more than that no row of 4,096 bits needs. The call below then
+// tests and answers; a longer row reaches it as one that it refuses by 2. Nothing but a build that is done writes.
+ghost use mathlib.Core.Path.{_≡_};
+ghost use Rattle.capi.specs.Calls.{buildWire, builtBytes, closeWire, encloseWire, ancestorWire};
+
+mod call;
+
+// Writes the nodes of the row's bits; bytes past them stay. A refusal leaves all bytes.
+#[no_mangle]
+pub extern "C" fn bp_build(row: &[u8], bits: u64, nodes: &mut [u8], block: u64) -> i64
+    ensures { λ r. ⌜ r ≡ buildWire (now (row .entry)) bits (now (nodes .entry)) block ⌝ }
+    ensures { λ r. ⌜ now (nodes .exit) ≡ builtBytes (now (row .entry)) bits (now (nodes .entry)) block ⌝ }
+{
+    let mut words = [0u64; wire::WORDS];
+    let mut numbers = [0i64; wire::NUMBERS];
+    let w = wire::take_words(row, &mut words[..]);
+    let m = wire::fitting(nodes.len(), wire::NUMBERS);
+    call::build(
+        &words[..w],
+        wire::bits(bits),
+        &mut numbers[..m],
+        block as usize,
+        nodes,
+    )
+}
+
+// close(at), for any position.
+#[no_mangle]
+pub extern "C" fn bp_close(row: &[u8], bits: u64, nodes: &[u8], block: u64, at: u64) -> i64
+    ensures { λ r. ⌜ r ≡ closeWire (now (row .entry)) bits (now (nodes .entry)) block at ⌝ }
+{
+    let mut words = [0u64; wire::WORDS];
+    let mut numbers = [0i64; wire::NUMBERS];
+    let w = wire::take_words(row, &mut words[..]);
+    let m = wire::take_numbers(nodes, &mut numbers[..]);
+    call::close(
+        &words[..w],
+        wire::bits(bits),
+        &numbers[..m],
+        block as usize,
+        at as usize,
+    )
+}
+
+// enclose(at), for any position.
+#[no_mangle]
+pub extern "C" fn bp_enclose(row: &[u8], bits: u64, nodes: &[u8], block: u64, at: u64) -> i64
+    ensures { λ r. ⌜ r ≡ encloseWire (now (row .entry)) bits (now (nodes .entry)) block at ⌝ }
+{
+    let mut words = [0u64; wire::WORDS];
+    let mut numbers = [0i64; wire::NUMBERS];
+    let w = wire::take_words(row, &mut words[..]);
+    let m = wire::take_numbers(nodes, &mut numbers[..]);
+    call::enclose(
+        &words[..w],
+        wire::bits(bits),
+        &numbers[..m],
+        block as usize,
+        at as usize,
+    )
+}
+
+// is_ancestor(ancestor, descendant): 1 or 0, nothing where the ancestor has no close.
+#[no_mangle]
+pub extern "C" fn bp_is_ancestor(
+    row: &[u8],
+    bits: u64,
+    nodes: &[u8],
+    block: u64,
+    ancestor: u64,
+    descendant: u64,
+) -> i64
+    ensures { λ r. ⌜ r ≡ ancestorWire (now (row .entry)) bits (now (nodes .entry)) block ancestor descendant ⌝ }
+{
+    let mut words = [0u64; wire::WORDS];
+    let mut numbers = [0i64; wire::NUMBERS];
+    let w = wire::take_words(row, &mut words[..]);
+    let m = wire::take_numbers(nodes, &mut numbers[..]);
+    call::is_ancestor(
+        &words[..w],
+        wire::bits(bits),
+        &numbers[..m],
+        block as usize,
+        ancestor as usize,
+        descendant as usize,
+    )
+}

@@ -1,0 +1,85 @@
+-- `outline::print::put_levels` is safe and ends. The loop's invariant: the page keeps its length. The measure is the levels left.
+-- Assumes nothing.
+use mathlib.Core.Path.{_≡_}
+use Prim.Native.Nat.{_-_, _≤_}
+use lib.ListN.{length}
+use borrow.Author.Needs.{needs}
+use Rattle.outline.proofs.print.put_levels.Statement.{statement}
+use Rattle.outline.proofs.print.put_levels.Tie as tie
+
+abbrev Inv-loop : tie.InvT-loop
+Inv-loop words n nodes page₀ at next₀ level₀ page next level = (level ≤ n) × (length page ≡ length page₀)
+
+abbrev μ-loop : tie.MeasureT-loop
+μ-loop words n nodes page₀ at next₀ level₀ page next level = n - level
+
+loop-holds : tie.Need-loop-holds Inv-loop μ-loop
+loop-holds c = search needs
+
+level-leftmost-requires : tie.Need-level-leftmost-requires Inv-loop μ-loop
+level-leftmost-requires c κs = search needs
+
+enum-known-v : tie.Need-enum-known-v Inv-loop μ-loop
+enum-known-v c = search needs
+
+put-level-requires : tie.Need-put-level-requires Inv-loop μ-loop
+put-level-requires c κs = search needs
+
+enum-told : tie.Need-enum-told Inv-loop μ-loop
+enum-told c = search needs
+
+same-length : tie.Need-same-length Inv-loop μ-loop
+same-length c = search needs
+
+returns : tie.Need-returns Inv-loop μ-loop
+returns c = search needs
+
+enum-known-k : tie.Need-enum-known-k Inv-loop μ-loop
+enum-known-k c = search needs
+
+put-refusal-requires : tie.Need-put-refusal-requires Inv-loop μ-loop
+put-refusal-requires c κs = search needs
+
+same-length-2 : tie.Need-same-length-2 Inv-loop μ-loop
+same-length-2 c = search needs
+
+returns-2 : tie.Need-returns-2 Inv-loop μ-loop
+returns-2 c = search needs
+
+add-level : tie.Need-add-level Inv-loop μ-loop
+add-level c = search needs
+
+loop-less : tie.Need-loop-less Inv-loop μ-loop
+loop-less c = search needs
+
+loop-again : tie.Need-loop-again Inv-loop μ-loop
+loop-again c = search needs
+
+same-length-3 : tie.Need-same-length-3 Inv-loop μ-loop
+same-length-3 c = search needs
+
+returns-3 : tie.Need-returns-3 Inv-loop μ-loop
+returns-3 c = search needs
+
+pub put-levels-spec : {M : Type 1} → statement M
+put-levels-spec =
+    tie.close
+    (tie.spec
+    Inv-loop
+    μ-loop
+    loop-holds
+    level-leftmost-requires
+    enum-known-v
+    put-level-requires
+    enum-told
+    same-length
+    returns
+    enum-known-k
+    put-refusal-requires
+    same-length-2
+    returns-2
+    add-level
+    loop-less
+    loop-again
+    same-length-3
+    returns-3)

@@ -1,0 +1,47 @@
+-- `outline::print::put_refused` meets its contract: one text behind the other. Assumes nothing.
+use mathlib.Core.Path.{_≡_}
+use mathlib.Core.List.{[], _∷_}
+use lib.ListN.{length}
+use Rattle.row.specs.Answer.{numberOf}
+use Rattle.outline.specs.Page.{decimalOf, refusedText}
+use Rattle.outline.proofs.Pages.{adds-then}
+use native.Mathlib.Omega.{arith}
+use borrow.Author.Needs.{needs}
+use Rattle.outline.proofs.print.put_refused.Statement.{statement}
+use Rattle.outline.proofs.print.put_refused.Tie as tie
+
+slice-aggregate-put-text : tie.Need-slice-aggregate-put-text
+slice-aggregate-put-text c = search needs
+
+put-text-requires : tie.Need-put-text-requires
+put-text-requires c κs = search needs
+
+number-requires : tie.Need-number-requires
+number-requires c κs = search needs
+
+put-number-requires : tie.Need-put-number-requires
+put-number-requires c κs = search needs
+
+same-length : tie.Need-same-length
+same-length c = search needs
+
+returns : tie.Need-returns
+unfolding refusedText
+returns c =
+    let a = c .before .before .before .before .before .before .before .before .before .before .before .args in
+    let o = c .before .before .before .before .before .before .before in
+    let p = c .before .before in
+    let e : length (o .put-text .last .0) ≡ length (a .page .now) = omega arith in
+    let d = rw (p .before .number .ensures) at (p .put-number .ensures) in
+    adds-then (a .page .now) (o .put-text .last .0) (p .put-number .last .0) (114 ∷ 101 ∷ 102 ∷ 117 ∷ 115 ∷ 101 ∷ 100 ∷ 32 ∷ []) (decimalOf (numberOf (a .k))) _ _ _ e (o .put-text .ensures) d
+
+pub put-refused-spec : {M : Type 1} → statement M
+put-refused-spec =
+    tie.close
+    (tie.spec
+    slice-aggregate-put-text
+    put-text-requires
+    number-requires
+    put-number-requires
+    same-length
+    returns)

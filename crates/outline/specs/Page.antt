@@ -1,0 +1,44 @@
+-- What is put on a page, and numbers and answers as text.
+-- Assumes nothing.
+use mathlib.Core.Path.{_≡_}
+use mathlib.Core.Bool.{cond}
+use mathlib.Core.List.{List, [], _∷_, _++_}
+use Prim.Native.Nat.{ℕ, zero, suc, _+_, _^_, _≤_}
+use lib.Dec.{ltb}
+use lib.IntN.{ℤ, negsuc}
+use lib.ListN.{length, take}
+use Rattle.io.specs.Digits.{digits}
+use Rattle.bp.specs.Searches.{fwdAnswer}
+use Rattle.bp.specs.Calls.{parent}
+use Rattle.bp.specs.Navigation.{nodeAnswer}
+use Rattle.row.specs.Answer.{Answer, at, nothing, refused}
+
+-- where the page has room for it, the text stands behind its first a bytes, and r counts both
+abbrev pub Adds : List ℕ → ℕ → List ℕ → List ℕ → ℕ → Type 0
+Adds old a text new r = a + length text ≤ length old → (r ≡ a + length text) × (take r new ≡ take a old ++ text)
+
+-- the least k from j on with n below 10 ^ k, looked for f steps far
+unfoldable pub places : ℕ → ℕ → ℕ → ℕ
+places n j zero = j
+places n j (suc f) = cond (ltb n (10 ^ j)) j (places n (suc j) f)
+
+-- a number in decimal, with no zeros in front; a u64 has 20 digits at most
+unfoldable pub decimalOf : ℕ → List ℕ
+decimalOf n = digits 10 (places n 1 19) n
+
+-- `refused ` and a number
+unfoldable pub refusedText : ℕ → List ℕ
+refusedText k = (114 ∷ 101 ∷ 102 ∷ 117 ∷ 115 ∷ 101 ∷ 100 ∷ 32 ∷ []) ++ decimalOf k
+
+-- a position, `-` for nothing; a refusal shows as such
+abbrev pub answerText : Answer → List ℕ
+answerText (at j) = decimalOf j
+answerText nothing = 45 ∷ []
+answerText (refused k) = refusedText k
+
+-- a node's line: level, open, close, parent
+unfoldable pub nodeLine : List ℕ → ℕ → List ℤ → ℕ → ℕ → List ℕ
+nodeLine ws n s k v =
+    (decimalOf k ++ (32 ∷ []))
+    ++ ((decimalOf v ++ (32 ∷ []))
+    ++ ((answerText (fwdAnswer ws n s 64 v (negsuc 0)) ++ (32 ∷ [])) ++ (answerText (nodeAnswer parent ws n s 64 v) ++ (10 ∷ []))))

@@ -1,0 +1,18 @@
+-- `probe::bpw_level_ancestor` meets its contract: it is the one call, and its answer crosses. Assumes nothing.
+use borrow.Author.Needs.{needs}
+use Rattle.demands.specs.Questions.{levelAncestor}
+use Rattle.probe.proofs.Small.{answer-small, small-as, crossed}
+use Rattle.probe.proofs.word_level.bpw_level_ancestor.Statement.{statement}
+use Rattle.probe.proofs.word_level.bpw_level_ancestor.Tie as tie
+
+level-ancestor-requires : tie.Need-level-ancestor-requires
+level-ancestor-requires c κs = search needs
+
+found-requires : tie.Need-found-requires
+found-requires c κs = small-as (c .level-ancestor .ensures .0) (answer-small _ _ _ _ (levelAncestor _ _))
+
+returns : tie.Need-returns
+returns c = crossed (record { sfits = c .found .ok }) (c .found .ensures) (c .before .level-ancestor .ensures .0)
+
+pub bpw-level-ancestor-spec : {M : Type 1} → statement M
+bpw-level-ancestor-spec = tie.close (tie.spec level-ancestor-requires found-requires returns)

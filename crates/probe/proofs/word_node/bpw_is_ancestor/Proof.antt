@@ -1,0 +1,17 @@
+-- `probe::bpw_is_ancestor` meets its contract: it is the one call, and its answer crosses. Assumes nothing.
+use borrow.Author.Needs.{needs}
+use Rattle.probe.proofs.Small.{crossed}
+use Rattle.probe.proofs.word_node.bpw_is_ancestor.Statement.{statement}
+use Rattle.probe.proofs.word_node.bpw_is_ancestor.Tie as tie
+
+is-ancestor-requires : tie.Need-is-ancestor-requires
+is-ancestor-requires c κs = search needs
+
+told-requires : tie.Need-told-requires
+told-requires c κs = search needs
+
+returns : tie.Need-returns
+returns c = crossed (record { sfits = c .told .ok }) (c .told .ensures) (c .before .is-ancestor .ensures .0)
+
+pub bpw-is-ancestor-spec : {M : Type 1} → statement M
+bpw-is-ancestor-spec = tie.close (tie.spec is-ancestor-requires told-requires returns)

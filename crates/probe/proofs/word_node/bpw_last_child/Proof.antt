@@ -1,0 +1,18 @@
+-- `probe::bpw_last_child` meets its contract: it is the one call, and its answer crosses. Assumes nothing.
+use borrow.Author.Needs.{needs}
+use Rattle.demands.specs.Questions.{lastChild}
+use Rattle.probe.proofs.Small.{answer-small, small-as, crossed}
+use Rattle.probe.proofs.word_node.bpw_last_child.Statement.{statement}
+use Rattle.probe.proofs.word_node.bpw_last_child.Tie as tie
+
+last-child-requires : tie.Need-last-child-requires
+last-child-requires c κs = search needs
+
+found-requires : tie.Need-found-requires
+found-requires c κs = small-as (c .last-child .ensures .0) (answer-small _ _ _ _ (lastChild _))
+
+returns : tie.Need-returns
+returns c = crossed (record { sfits = c .found .ok }) (c .found .ensures) (c .before .last-child .ensures .0)
+
+pub bpw-last-child-spec : {M : Type 1} → statement M
+bpw-last-child-spec = tie.close (tie.spec last-child-requires found-requires returns)

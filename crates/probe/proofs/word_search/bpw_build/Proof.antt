@@ -1,0 +1,22 @@
+-- `probe::bpw_build` meets its contract: it is the one call, and its answer crosses. Assumes nothing.
+use borrow.Author.Needs.{needs}
+use Rattle.probe.proofs.Small.{crossed}
+use Rattle.probe.proofs.word_search.bpw_build.Statement.{statement}
+use Rattle.probe.proofs.word_search.bpw_build.Tie as tie
+
+build-requires : tie.Need-build-requires
+build-requires c κs = search needs
+
+built-requires : tie.Need-built-requires
+built-requires c κs = search needs
+
+same-length : tie.Need-same-length
+same-length c = search needs
+
+returns : tie.Need-returns
+returns c =
+    let b = c .before .before .build .ensures in
+    (crossed (record { sfits = c .built .ok }) (c .built .ensures) (b .0), b .1)
+
+pub bpw-build-spec : {M : Type 1} → statement M
+bpw-build-spec = tie.close (tie.spec build-requires built-requires same-length returns)

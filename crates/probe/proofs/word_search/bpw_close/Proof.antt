@@ -1,0 +1,18 @@
+-- `probe::bpw_close` meets its contract: it is the one call, and its answer crosses. Assumes nothing.
+use borrow.Author.Needs.{needs}
+use Rattle.demands.specs.Questions.{closeOf}
+use Rattle.probe.proofs.Small.{answer-small, small-as, crossed}
+use Rattle.probe.proofs.word_search.bpw_close.Statement.{statement}
+use Rattle.probe.proofs.word_search.bpw_close.Tie as tie
+
+close-requires : tie.Need-close-requires
+close-requires c κs = search needs
+
+found-requires : tie.Need-found-requires
+found-requires c κs = small-as (c .close .ensures .0) (answer-small _ _ _ _ (closeOf _))
+
+returns : tie.Need-returns
+returns c = crossed (record { sfits = c .found .ok }) (c .found .ensures) (c .before .close .ensures .0)
+
+pub bpw-close-spec : {M : Type 1} → statement M
+bpw-close-spec = tie.close (tie.spec close-requires found-requires returns)

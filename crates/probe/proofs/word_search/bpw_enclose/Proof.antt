@@ -1,0 +1,18 @@
+-- `probe::bpw_enclose` meets its contract: it is the one call, and its answer crosses. Assumes nothing.
+use borrow.Author.Needs.{needs}
+use Rattle.demands.specs.Questions.{enclose}
+use Rattle.probe.proofs.Small.{answer-small, small-as, crossed}
+use Rattle.probe.proofs.word_search.bpw_enclose.Statement.{statement}
+use Rattle.probe.proofs.word_search.bpw_enclose.Tie as tie
+
+enclose-requires : tie.Need-enclose-requires
+enclose-requires c κs = search needs
+
+found-requires : tie.Need-found-requires
+found-requires c κs = small-as (c .enclose .ensures .0) (answer-small _ _ _ _ (enclose _))
+
+returns : tie.Need-returns
+returns c = crossed (record { sfits = c .found .ok }) (c .found .ensures) (c .before .enclose .ensures .0)
+
+pub bpw-enclose-spec : {M : Type 1} → statement M
+bpw-enclose-spec = tie.close (tie.spec enclose-requires found-requires returns)

@@ -1,0 +1,24 @@
+-- `probe::bpw_fwd_search` meets its contract: it is the one call, and its answer crosses. Assumes nothing.
+use borrow.Author.Needs.{needs}
+use Rattle.demands.specs.Questions.{fwdSearch}
+use mir.Syntax.{w64}
+use mir.ValLaws.{toZ-ofZ}
+use Rattle.probe.proofs.Small.{answer-small, small-as, crossed}
+use Rattle.probe.proofs.word_search.bpw_fwd_search.Statement.{statement}
+use Rattle.probe.proofs.word_search.bpw_fwd_search.Tie as tie
+
+fwd-search-requires : tie.Need-fwd-search-requires
+fwd-search-requires c κs = search needs
+
+found-requires : tie.Need-found-requires
+found-requires c κs =
+    small-as (rw (toZ-ofZ w64 _ (c .before .before .fits .r)) at (c .fwd-search .ensures .0))
+    (answer-small _ _ _ _ (fwdSearch _ _))
+
+returns : tie.Need-returns
+returns c =
+    crossed (record { sfits = c .found .ok }) (c .found .ensures)
+    (rw (toZ-ofZ w64 _ (c .before .before .before .fits .r)) at (c .before .fwd-search .ensures .0))
+
+pub bpw-fwd-search-spec : {M : Type 1} → statement M
+bpw-fwd-search-spec = tie.close (tie.spec fwd-search-requires found-requires returns)

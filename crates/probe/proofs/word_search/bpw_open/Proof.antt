@@ -1,0 +1,18 @@
+-- `probe::bpw_open` meets its contract: it is the one call, and its answer crosses. Assumes nothing.
+use borrow.Author.Needs.{needs}
+use Rattle.demands.specs.Questions.{openOf}
+use Rattle.probe.proofs.Small.{answer-small, small-as, crossed}
+use Rattle.probe.proofs.word_search.bpw_open.Statement.{statement}
+use Rattle.probe.proofs.word_search.bpw_open.Tie as tie
+
+open-requires : tie.Need-open-requires
+open-requires c κs = search needs
+
+found-requires : tie.Need-found-requires
+found-requires c κs = small-as (c .open .ensures .0) (answer-small _ _ _ _ (openOf _))
+
+returns : tie.Need-returns
+returns c = crossed (record { sfits = c .found .ok }) (c .found .ensures) (c .before .open .ensures .0)
+
+pub bpw-open-spec : {M : Type 1} → statement M
+bpw-open-spec = tie.close (tie.spec open-requires found-requires returns)

@@ -1,0 +1,17 @@
+-- `probe::bpw_one_tree` meets its contract: it is the one call, and its answer crosses. Assumes nothing.
+use borrow.Author.Needs.{needs}
+use Rattle.probe.proofs.Small.{crossed}
+use Rattle.probe.proofs.word_test.bpw_one_tree.Statement.{statement}
+use Rattle.probe.proofs.word_test.bpw_one_tree.Tie as tie
+
+one-tree-requires : tie.Need-one-tree-requires
+one-tree-requires c κs = search needs
+
+told-requires : tie.Need-told-requires
+told-requires c κs = search needs
+
+returns : tie.Need-returns
+returns c = crossed (record { sfits = c .told .ok }) (c .told .ensures) (c .before .one-tree .ensures .0)
+
+pub bpw-one-tree-spec : {M : Type 1} → statement M
+bpw-one-tree-spec = tie.close (tie.spec one-tree-requires told-requires returns)

@@ -1,0 +1,84 @@
+// The calls on levels over words and numbers, for rows of any size, without a copy.
+// Each is one call of the crate that answers it, and promises what that promises.
+ghost use mathlib.Core.Path.{_≡_};
+ghost use Rattle.bp.specs.Calls.{levelAncestor, levelNext, levelPrev, levelLeftmost};
+ghost use Rattle.bp.specs.Navigation.{nodeAnswer, levelAnswer, rightmostAnswer};
+ghost use Rattle.wire.specs.Answer.{wireOf};
+
+// level_ancestor(node, level).
+#[no_mangle]
+pub extern "C" fn bpw_level_ancestor(
+    words: &[u64],
+    bits: u64,
+    nodes: &[i64],
+    block: u64,
+    node: u64,
+    level: u64,
+) -> i64
+    ensures { λ a. ⌜ a ≡ wireOf (nodeAnswer (levelAncestor level) (now (words .entry)) bits (now (nodes .entry)) block node) ⌝ }
+{
+    wire::found(bp::level_ancestor(
+        words,
+        bits as usize,
+        nodes,
+        block as usize,
+        node as usize,
+        level,
+    ))
+}
+
+// level_next(node).
+#[no_mangle]
+pub extern "C" fn bpw_level_next(
+    words: &[u64],
+    bits: u64,
+    nodes: &[i64],
+    block: u64,
+    node: u64,
+) -> i64
+    ensures { λ a. ⌜ a ≡ wireOf (nodeAnswer levelNext (now (words .entry)) bits (now (nodes .entry)) block node) ⌝ }
+{
+    wire::found(bp::level_next(words, bits as usize, nodes, block as usize, node as usize))
+}
+
+// level_prev(node).
+#[no_mangle]
+pub extern "C" fn bpw_level_prev(
+    words: &[u64],
+    bits: u64,
+    nodes: &[i64],
+    block: u64,
+    node: u64,
+) -> i64
+    ensures { λ a. ⌜ a ≡ wireOf (nodeAnswer levelPrev (now (words .entry)) bits (now (nodes .entry)) block node) ⌝ }
+{
+    wire::found(bp::level_prev(words, bits as usize, nodes, block as usize, node as usize))
+}
+
+// level_leftmost(level).
+#[no_mangle]
+pub extern "C" fn bpw_level_leftmost(
+    words: &[u64],
+    bits: u64,
+    nodes: &[i64],
+    block: u64,
+    level: u64,
+) -> i64
+    ensures { λ a. ⌜ a ≡ wireOf (levelAnswer levelLeftmost (now (words .entry)) bits (now (nodes .entry)) block level) ⌝ }
+{
+    wire::found(bp::level_leftmost(words, bits as usize, nodes, block as usize, level))
+}
+
+// level_rightmost(level).
+#[no_mangle]
+pub extern "C" fn bpw_level_rightmost(
+    words: &[u64],
+    bits: u64,
+    nodes: &[i64],
+    block: u64,
+    level: u64,
+) -> i64
+    ensures { λ a. ⌜ a ≡ wireOf (rightmostAnswer (now (words .entry)) bits (now (nodes .entry)) block level) ⌝ }
+{
+    wire::found(bp::level_rightmost(words, bits as usize, nodes, block as usize, level))
+}

@@ -1,0 +1,74 @@
+// The build and the searches over words and numbers, for rows of any size, without a copy.
+// Each is one call of the crate that answers it, and promises what that promises.
+ghost use mathlib.Core.Path.{_≡_};
+ghost use lib.IntN.{negsuc};
+ghost use lib.ListN.{length};
+ghost use Rattle.row.specs.Answer as answer;
+ghost use Rattle.row.specs.Gates.{through};
+ghost use Rattle.mmt.specs.Layout.{nodesGate};
+ghost use Rattle.mmt.specs.Build.{builtNodes};
+ghost use Rattle.bp.specs.Searches.{fwdAnswer, bwdAnswer, outward};
+ghost use Rattle.wire.specs.Answer.{wireOf};
+
+// Writes the nodes of the row's bits; numbers past them stay. A refusal leaves all numbers.
+#[no_mangle]
+pub extern "C" fn bpw_build(words: &[u64], bits: u64, nodes: &mut [i64], block: u64) -> i64
+    ensures { λ a. ⌜ a ≡ wireOf (through (nodesGate (length (now (words .entry))) bits (length (now (nodes .entry))) block) (answer.at 0)) ⌝ }
+    ensures { λ a. ⌜ now (nodes .exit) ≡ builtNodes (now (words .entry)) bits (now (nodes .entry)) block ⌝ }
+{
+    wire::built(mmt::build(words, bits as usize, nodes, block as usize))
+}
+
+// fwd_search(at, r).
+#[no_mangle]
+pub extern "C" fn bpw_fwd_search(
+    words: &[u64],
+    bits: u64,
+    nodes: &[i64],
+    block: u64,
+    at: u64,
+    r: i64,
+) -> i64
+    ensures { λ a. ⌜ a ≡ wireOf (fwdAnswer (now (words .entry)) bits (now (nodes .entry)) block at r) ⌝ }
+{
+    wire::found(bp::fwd_search(words, bits as usize, nodes, block as usize, at as usize, r))
+}
+
+// bwd_search(at, r).
+#[no_mangle]
+pub extern "C" fn bpw_bwd_search(
+    words: &[u64],
+    bits: u64,
+    nodes: &[i64],
+    block: u64,
+    at: u64,
+    r: i64,
+) -> i64
+    ensures { λ a. ⌜ a ≡ wireOf (bwdAnswer (now (words .entry)) bits (now (nodes .entry)) block at r) ⌝ }
+{
+    wire::found(bp::bwd_search(words, bits as usize, nodes, block as usize, at as usize, r))
+}
+
+// close(at), for any position.
+#[no_mangle]
+pub extern "C" fn bpw_close(words: &[u64], bits: u64, nodes: &[i64], block: u64, at: u64) -> i64
+    ensures { λ a. ⌜ a ≡ wireOf (fwdAnswer (now (words .entry)) bits (now (nodes .entry)) block at (negsuc 0)) ⌝ }
+{
+    wire::found(bp::close(words, bits as usize, nodes, block as usize, at as usize))
+}
+
+// open(at), for any position.
+#[no_mangle]
+pub extern "C" fn bpw_open(words: &[u64], bits: u64, nodes: &[i64], block: u64, at: u64) -> i64
+    ensures { λ a. ⌜ a ≡ wireOf (bwdAnswer (now (words .entry)) bits (now (nodes .entry)) block at (negsuc 0)) ⌝ }
+{
+    wire::found(bp::open(words, bits as usize, nodes, block as usize, at as usize))
+}
+
+// enclose(at), for any position.
+#[no_mangle]
+pub extern "C" fn bpw_enclose(words: &[u64], bits: u64, nodes: &[i64], block: u64, at: u64) -> i64
+    ensures { λ a. ⌜ a ≡ wireOf (bwdAnswer (now (words .entry)) bits (now (nodes .entry)) block at (outward (now (words .entry)) bits at)) ⌝ }
+{
+    wire::found(bp::enclose(words, bits as usize, nodes, block as usize, at as usize))
+}

@@ -1,0 +1,35 @@
+// The tests and the reader of text over words and numbers, for rows of any size, without a copy.
+// Each is one call of the crate that answers it, and promises what that promises.
+ghost use mathlib.Core.Path.{_≡_};
+ghost use lib.ListN.{length};
+ghost use Rattle.row.specs.Answer.{at};
+ghost use Rattle.row.specs.Gates.{through};
+ghost use Rattle.text.specs.Text.{textGate, textWords};
+ghost use Rattle.scan.specs.OneTree.{oneTreeAnswer};
+ghost use Rattle.mmt.specs.Check.{asBuiltAnswer};
+ghost use Rattle.wire.specs.Answer.{wireOf};
+
+// Whether the row is one tree: 1 or 0.
+#[no_mangle]
+pub extern "C" fn bpw_one_tree(words: &[u64], bits: u64) -> i64
+    ensures { λ a. ⌜ a ≡ wireOf (oneTreeAnswer (now (words .entry)) bits) ⌝ }
+{
+    wire::told(scan::one_tree(words, bits as usize))
+}
+
+// Whether the nodes are those that a build writes: 1 or 0.
+#[no_mangle]
+pub extern "C" fn bpw_as_built(words: &[u64], bits: u64, nodes: &[i64], block: u64) -> i64
+    ensures { λ a. ⌜ a ≡ wireOf (asBuiltAnswer (now (words .entry)) bits (now (nodes .entry)) block) ⌝ }
+{
+    wire::told(mmt::as_built(words, bits as usize, nodes, block as usize))
+}
+
+// The bits of a text: their count. Fills the words that they need; words past those stay, and a refusal leaves all.
+#[no_mangle]
+pub extern "C" fn bpw_read_text(text: &[u8], words: &mut [u64]) -> i64
+    ensures { λ a. ⌜ a ≡ wireOf (through (textGate (now (text .entry)) (length (now (words .entry)))) (at (length (now (text .entry))))) ⌝ }
+    ensures { λ a. ⌜ now (words .exit) ≡ textWords (now (text .entry)) (now (words .entry)) ⌝ }
+{
+    wire::read(text::read_text(text, words))
+}

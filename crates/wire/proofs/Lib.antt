@@ -1,0 +1,3 @@
+mod Twos
+mod Numbers
+pub mod Runs

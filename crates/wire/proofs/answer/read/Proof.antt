@@ -1,0 +1,39 @@
+-- `wire::read` meets its contract, arm by arm. Assumes nothing.
+use mathlib.Core.Path.{sym, ap, _∙_}
+use native.Mathlib.Omega.{arith}
+use mir.Syntax.{w64}
+use mir.ValLaws.{toZ-ofZ, toZ-pos}
+use Rattle.row.specs.Answer.{paperRead}
+use Rattle.wire.specs.Answer.{wireOf}
+use Rattle.wire.proofs.Numbers.{small-at}
+use borrow.Author.Needs.{needs}
+use Rattle.wire.proofs.answer.read.Statement.{statement}
+use Rattle.wire.proofs.answer.read.Tie as tie
+
+enum-known-a : tie.Need-enum-known-a
+enum-known-a c = search needs
+
+cast-result : tie.Need-cast-result
+cast-result c =
+    let s = small-at _ _ (ap paperRead (c .before .a .given .1)) (c .before .before .before .pre) in
+    record { sfits = omega arith }
+
+enum-known-a-2 : tie.Need-enum-known-a-2
+enum-known-a-2 c = search needs
+
+refused-requires : tie.Need-refused-requires
+refused-requires c κs = search needs
+
+returns : tie.Need-returns
+returns c =
+    let s = small-at _ _ (ap paperRead (c .before .a .given .1)) (c .before .before .before .pre) in
+    toZ-pos w64 _ (omega arith) ∙ sym (ap (λ x. wireOf (paperRead x)) (c .before .a .given .1))
+
+returns-2 : tie.Need-returns-2
+returns-2 c =
+    toZ-ofZ w64 _ (record { sfits = c .refused .ok }) ∙ c .refused .ensures
+    ∙ sym (ap (λ x. wireOf (paperRead x)) (c .before .before .a2 .given .1))
+
+pub read-spec : {M : Type 1} → statement M
+read-spec =
+    tie.close (tie.spec enum-known-a cast-result enum-known-a-2 refused-requires returns returns-2)

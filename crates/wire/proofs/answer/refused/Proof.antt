@@ -1,0 +1,30 @@
+-- `wire::refused` meets its contract: the number is small. Assumes nothing.
+use native.Mathlib.Omega.{arith}
+use mir.Syntax.{w64}
+use mir.ValLaws.{toZ-ofZ}
+use Rattle.wire.proofs.Numbers.{number-small, below, negsuc-fits}
+use borrow.Author.Needs.{needs}
+use Rattle.wire.proofs.answer.refused.Statement.{statement}
+use Rattle.wire.proofs.answer.refused.Tie as tie
+use Rattle.row.proofs.number.Reads as number-reads
+
+number-requires : tie.Need-number-requires
+number-requires c κs = search needs
+
+cast-result : tie.Need-cast-result
+cast-result c =
+    let s = number-small (c .before .args .k) in
+    rw (c .number .ensures) (record { sfits = omega arith })
+
+sub-result : tie.Need-sub-result
+sub-result c =
+    let s = number-small (c .before .args .k) in
+    rw (c .number .ensures, below _ s) (negsuc-fits _ s)
+
+returns : tie.Need-returns
+returns c =
+    let s = number-small (c .before .args .k) in
+    rw (c .number .ensures, below _ s) (toZ-ofZ w64 _ (negsuc-fits _ s))
+
+pub refused-spec : {M : Type 1} → statement M
+refused-spec = tie.close (tie.spec number-requires cast-result sub-result returns)

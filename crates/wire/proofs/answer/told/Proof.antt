@@ -1,0 +1,52 @@
+-- `wire::told` meets its contract, arm by arm. Assumes nothing.
+use mathlib.Core.Path.{sym, ap, _∙_}
+use mir.Syntax.{w64}
+use mir.ValLaws.{toZ-ofZ}
+use Rattle.row.specs.Answer.{paperTold}
+use Rattle.wire.specs.Answer.{wireOf}
+use borrow.Author.Needs.{needs}
+use Rattle.wire.proofs.answer.told.Statement.{statement}
+use Rattle.wire.proofs.answer.told.Tie as tie
+
+enum-told : tie.Need-enum-told
+enum-told c = search needs
+
+enum-told-2 : tie.Need-enum-told-2
+enum-told-2 c = search needs
+
+enum-told-3 : tie.Need-enum-told-3
+enum-told-3 c = search needs
+
+enum-known-a : tie.Need-enum-known-a
+enum-known-a c = search needs
+
+refused-requires : tie.Need-refused-requires
+refused-requires c κs = search needs
+
+returns : tie.Need-returns
+returns c = sym (ap (λ x. wireOf (paperTold x)) (c .enum-told .given .1))
+
+returns-2 : tie.Need-returns-2
+returns-2 c = sym (ap (λ x. wireOf (paperTold x)) (c .enum-told2 .given .1))
+
+returns-3 : tie.Need-returns-3
+returns-3 c = sym (ap (λ x. wireOf (paperTold x)) (c .enum-told3 .given .1))
+
+returns-4 : tie.Need-returns-4
+returns-4 c =
+    toZ-ofZ w64 _ (record { sfits = c .refused .ok }) ∙ c .refused .ensures
+    ∙ sym (ap (λ x. wireOf (paperTold x)) (c .before .before .a .given .1))
+
+pub told-spec : {M : Type 1} → statement M
+told-spec =
+    tie.close
+    (tie.spec
+    enum-told
+    enum-told-2
+    enum-told-3
+    enum-known-a
+    refused-requires
+    returns
+    returns-2
+    returns-3
+    returns-4)

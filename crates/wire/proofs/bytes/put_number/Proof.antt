@@ -1,0 +1,26 @@
+-- `wire::put_number` meets its contract. Assumes nothing.
+use mathlib.Core.Path.{ap, _∙_}
+use mir.Syntax.{w64}
+use mir.ValLaws.{toZ-ofZ}
+use Rattle.wire.specs.Bytes.{putAt}
+use borrow.Author.Needs.{needs}
+use Rattle.wire.proofs.bytes.put_number.Statement.{statement}
+use Rattle.wire.proofs.bytes.put_number.Tie as tie
+
+to-word-requires : tie.Need-to-word-requires
+to-word-requires c κs = search needs
+
+put-requires : tie.Need-put-requires
+put-requires c κs = search needs
+
+same-length : tie.Need-same-length
+same-length c = search needs
+
+returns : tie.Need-returns
+returns c =
+    let a = c .before .before .before .before .before .before in
+    let w = rw (toZ-ofZ w64 _ (a .fits .z)) at (c .before .before .before .to-word .ensures) in
+    c .before .before .put .ensures ∙ ap (putAt (a .args .b .now) (a .args .i)) w
+
+pub put-number-spec : {M : Type 1} → statement M
+put-number-spec = tie.close (tie.spec to-word-requires put-requires same-length returns)

@@ -1,0 +1,28 @@
+-- `wire::word` meets its contract: its two halves. Assumes nothing.
+use Rattle.wire.specs.Bytes.{wordAt}
+use borrow.Author.Needs.{needs}
+use Rattle.wire.proofs.bytes.word.Statement.{statement}
+use Rattle.wire.proofs.bytes.word.Tie as tie
+
+half-requires : tie.Need-half-requires
+half-requires c κs = search needs
+
+add-half : tie.Need-add-half
+add-half c = search needs
+
+half-requires-2 : tie.Need-half-requires-2
+half-requires-2 c κs = search needs
+
+mul-result : tie.Need-mul-result
+mul-result c = search needs
+
+add-result : tie.Need-add-result
+add-result c = search needs
+
+returns : tie.Need-returns
+unfolding wordAt
+returns c = simp (c .before .half .ensures .0, c .half2 .ensures .0)
+
+pub word-spec : {M : Type 1} → statement M
+word-spec =
+    tie.close (tie.spec half-requires add-half half-requires-2 mul-result add-result returns)

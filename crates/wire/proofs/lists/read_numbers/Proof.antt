@@ -1,0 +1,76 @@
+-- `wire::read_numbers` meets its contract: the first i numbers of out are those at their places. Measure: what is left of out. Assumes nothing.
+use native.Mathlib.Omega.{arith}
+use borrow.Author.Needs.{needs}
+use mathlib.Core.Path.{_≡_, refl, _∙_}
+use Prim.Native.Nat.{_-_, _*_, _≤_}
+use lib.ListN.{length, length-set}
+use lib.IntN.{pos}
+use mir.Syntax.{w64}
+use mir.ValLaws.{toZ-ofZ}
+use Rattle.wire.specs.Bytes.{numberAt}
+use Rattle.wire.proofs.Runs.{Each, more, each-made}
+use Rattle.wire.proofs.lists.read_numbers.Statement.{statement}
+use Rattle.wire.proofs.lists.read_numbers.Tie as tie
+
+abbrev Inv-loop : tie.InvT-loop
+Inv-loop bytes out₀ i₀ out i = (i ≤ length out₀) × (length out ≡ length out₀) × Each out (pos 0) (λ j. numberAt bytes (8 * j)) i
+
+abbrev μ-loop : tie.MeasureT-loop
+μ-loop bytes out₀ i₀ out i = length out₀ - i
+
+loop-holds : tie.Need-loop-holds Inv-loop μ-loop
+loop-holds c = (search needs, refl, λ j l. absurd (omega arith))
+
+mul-number : tie.Need-mul-number Inv-loop μ-loop
+mul-number c = search needs
+
+number-requires : tie.Need-number-requires Inv-loop μ-loop
+number-requires c κs = search needs
+
+mul-t7 : tie.Need-mul-t7 Inv-loop μ-loop
+mul-t7 c = search needs
+
+slice-set-from-out : tie.Need-slice-set-from-out Inv-loop μ-loop
+slice-set-from-out c = search needs
+
+add-i : tie.Need-add-i Inv-loop μ-loop
+add-i c = search needs
+
+loop-less : tie.Need-loop-less Inv-loop μ-loop
+loop-less c = search needs
+
+loop-again : tie.Need-loop-again Inv-loop μ-loop
+loop-again c =
+    let b = c .before .before in
+    let s = c .before .before .before .before .args .bytes .now in
+    let e = toZ-ofZ w64 _ (record { sfits = c .number .ok }) ∙ c .number .ensures in (
+      search needs,
+      simp length-set (search needs),
+      more (b .loop .out) (pos 0) _ (λ j. numberAt s (8 * j)) (b .loop .i) (omega arith) (b .loop .inv .2) e,
+    )
+
+same-length : tie.Need-same-length Inv-loop μ-loop
+same-length c = search needs
+
+returns : tie.Need-returns Inv-loop μ-loop
+returns c =
+    let b = c .before .loop in
+    let s = c .before .before .before .args .bytes .now in
+    each-made (b .out) (pos 0) (λ j. numberAt s (8 * j)) _ (b .inv .1) (λ j l. b .inv .2 j (omega arith))
+
+pub read-numbers-spec : {M : Type 1} → statement M
+read-numbers-spec =
+    tie.close
+    (tie.spec
+    Inv-loop
+    μ-loop
+    loop-holds
+    mul-number
+    number-requires
+    mul-t7
+    slice-set-from-out
+    add-i
+    loop-less
+    loop-again
+    same-length
+    returns)

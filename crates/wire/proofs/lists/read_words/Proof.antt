@@ -1,0 +1,72 @@
+-- `wire::read_words` meets its contract: the first i words of out are those at their places. Measure: what is left of out. Assumes nothing.
+use native.Mathlib.Omega.{arith}
+use borrow.Author.Needs.{needs}
+use mathlib.Core.Path.{_≡_, refl}
+use Prim.Native.Nat.{_-_, _*_, _≤_}
+use lib.ListN.{length, length-set}
+use Rattle.wire.specs.Bytes.{wordAt}
+use Rattle.wire.proofs.Runs.{Each, more, each-made}
+use Rattle.wire.proofs.lists.read_words.Statement.{statement}
+use Rattle.wire.proofs.lists.read_words.Tie as tie
+
+abbrev Inv-loop : tie.InvT-loop
+Inv-loop bytes out₀ i₀ out i = (i ≤ length out₀) × (length out ≡ length out₀) × Each out 0 (λ j. wordAt bytes (8 * j)) i
+
+abbrev μ-loop : tie.MeasureT-loop
+μ-loop bytes out₀ i₀ out i = length out₀ - i
+
+loop-holds : tie.Need-loop-holds Inv-loop μ-loop
+loop-holds c = (search needs, refl, λ j l. absurd (omega arith))
+
+mul-word : tie.Need-mul-word Inv-loop μ-loop
+mul-word c = search needs
+
+word-requires : tie.Need-word-requires Inv-loop μ-loop
+word-requires c κs = search needs
+
+mul-out : tie.Need-mul-out Inv-loop μ-loop
+mul-out c = search needs
+
+slice-write-out : tie.Need-slice-write-out Inv-loop μ-loop
+slice-write-out c = search needs
+
+add-i : tie.Need-add-i Inv-loop μ-loop
+add-i c = search needs
+
+loop-less : tie.Need-loop-less Inv-loop μ-loop
+loop-less c = search needs
+
+loop-again : tie.Need-loop-again Inv-loop μ-loop
+loop-again c =
+    let b = c .before .before in
+    let s = c .before .before .before .before .before .args .bytes .now in (
+      search needs,
+      simp length-set (search needs),
+      more (b .loop .out) 0 _ (λ j. wordAt s (8 * j)) (b .loop .i) (omega arith) (b .loop .inv .2) (c .word .ensures),
+    )
+
+same-length : tie.Need-same-length Inv-loop μ-loop
+same-length c = search needs
+
+returns : tie.Need-returns Inv-loop μ-loop
+returns c =
+    let b = c .before .loop in
+    let s = c .before .before .before .before .args .bytes .now in
+    each-made (b .out) 0 (λ j. wordAt s (8 * j)) _ (b .inv .1) (λ j l. b .inv .2 j (omega arith))
+
+pub read-words-spec : {M : Type 1} → statement M
+read-words-spec =
+    tie.close
+    (tie.spec
+    Inv-loop
+    μ-loop
+    loop-holds
+    mul-word
+    word-requires
+    mul-out
+    slice-write-out
+    add-i
+    loop-less
+    loop-again
+    same-length
+    returns)

@@ -1,0 +1,47 @@
+-- `wire::take_numbers` meets its contract: the part that fits is lent and read. Assumes nothing.
+use native.Mathlib.Omega.{arith}
+use mathlib.Core.Path.{sym}
+use Prim.Native.Nat.{_*_, _≤_}
+use lib.ListN.{length}
+use lib.Seq.{length-take-le}
+use Rattle.wire.specs.Bytes.{numberAt}
+use Rattle.wire.proofs.Runs.{prefix-fits, prefix-made}
+use borrow.Author.Needs.{needs}
+use Rattle.wire.proofs.lists.take_numbers.Statement.{statement}
+use Rattle.wire.proofs.lists.take_numbers.Tie as tie
+
+fitting-requires : tie.Need-fitting-requires
+fitting-requires c κs = search needs
+
+slice-relend-prefix-read-numbers : tie.Need-slice-relend-prefix-read-numbers
+slice-relend-prefix-read-numbers c = search needs
+
+slice-aggregate-read-numbers : tie.Need-slice-aggregate-read-numbers
+slice-aggregate-read-numbers c =
+    let a = c .before .before .before .args .out .now in
+    let h : c .before .fitting .result ≤ length a = omega (arith, c .before .fitting .ensures) in
+    sym (length-take-le _ a h)
+
+read-numbers-requires : tie.Need-read-numbers-requires
+read-numbers-requires c κs = prefix-fits _ _ _ (c .before .fitting .ensures)
+
+same-length : tie.Need-same-length
+same-length c = search needs
+
+returns : tie.Need-returns
+returns c =
+    let a = c .before .before .before .before .before .args in
+    let e = c .before .before .before .fitting in
+    let h : e .result ≤ length (a .out .now) = omega (arith, e .ensures) in
+    (e .ensures, prefix-made (λ j. numberAt (a .bytes .now) (8 * j)) (a .out .now) _ _ (e .result) h (c .before .read-numbers .ensures))
+
+pub take-numbers-spec : {M : Type 1} → statement M
+take-numbers-spec =
+    tie.close
+    (tie.spec
+    fitting-requires
+    slice-relend-prefix-read-numbers
+    slice-aggregate-read-numbers
+    read-numbers-requires
+    same-length
+    returns)

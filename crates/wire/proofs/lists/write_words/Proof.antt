@@ -1,0 +1,74 @@
+-- `wire::write_words` meets its contract: the first i words stand over the front. Measure: the words left. Assumes nothing.
+use native.Mathlib.Omega.{arith}
+use borrow.Author.Needs.{needs}
+use mathlib.Core.Path.{_≡_, refl, _∙_}
+use Prim.Native.Nat.{_-_, _≤_}
+use lib.ListN.{length, take}
+use Rattle.wire.specs.Bytes.{wordsOver}
+use Rattle.wire.proofs.Runs.{over-none, over-more, over-all}
+use Rattle.wire.proofs.lists.write_words.Statement.{statement}
+use Rattle.wire.proofs.lists.write_words.Tie as tie
+
+abbrev Inv-loop : tie.InvT-loop
+Inv-loop words bytes₀ i₀ bytes i = (i ≤ length words) × (bytes ≡ wordsOver (take i words) bytes₀) × (length bytes ≡ length bytes₀)
+
+abbrev μ-loop : tie.MeasureT-loop
+μ-loop words bytes₀ i₀ bytes i = length words - i
+
+loop-holds : tie.Need-loop-holds Inv-loop μ-loop
+loop-holds c = let a = c .before .before .args in (search needs, over-none (a .words .now) (a .bytes .now), refl)
+
+mul-put : tie.Need-mul-put Inv-loop μ-loop
+mul-put c = search needs
+
+mul-put-2 : tie.Need-mul-put-2 Inv-loop μ-loop
+mul-put-2 c = search needs
+
+shared-slice-read-put : tie.Need-shared-slice-read-put Inv-loop μ-loop
+shared-slice-read-put c = search needs
+
+put-requires : tie.Need-put-requires Inv-loop μ-loop
+put-requires c κs = search needs
+
+add-i : tie.Need-add-i Inv-loop μ-loop
+add-i c = search needs
+
+loop-less : tie.Need-loop-less Inv-loop μ-loop
+loop-less c = search needs
+
+loop-again : tie.Need-loop-again Inv-loop μ-loop
+loop-again c =
+    let a = c .before .before .before .before .before .before .before .before .before .args in
+    let b = c .before .before .before .before .before .before .loop in
+    let p = c .before .before .put in (
+      search needs,
+      p .ensures ∙ over-more (a .words .now) (a .bytes .now) (b .bytes) (b .i) _ (omega arith) (b .inv .1) refl,
+      p .kept .0 ∙ b .inv .2,
+    )
+
+same-length : tie.Need-same-length Inv-loop μ-loop
+same-length c = search needs
+
+returns : tie.Need-returns Inv-loop μ-loop
+returns c =
+    let a = c .before .before .before .before .args in
+    let b = c .before .loop in
+    let e : b .i ≡ length (a .words .now) = omega arith in
+    b .inv .1 ∙ over-all (a .words .now) (a .bytes .now) (b .i) e
+
+pub write-words-spec : {M : Type 1} → statement M
+write-words-spec =
+    tie.close
+    (tie.spec
+    Inv-loop
+    μ-loop
+    loop-holds
+    mul-put
+    mul-put-2
+    shared-slice-read-put
+    put-requires
+    add-i
+    loop-less
+    loop-again
+    same-length
+    returns)

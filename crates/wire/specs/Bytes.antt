@@ -1,0 +1,56 @@
+-- Words and signed numbers in bytes: eight bytes each, least significant first.
+-- Assumes nothing.
+use mathlib.Core.List.{List, [], _∷_, _++_, map}
+use Prim.Native.Nat.{ℕ, zero, suc, _+_, _*_, _/_, _%_}
+use lib.IntN.{ℤ}
+use lib.ListN.{length, getD, take, drop}
+use mir.Syntax.{w64}
+use mir.Val.{toZ, ofZ}
+
+-- the number whose four bytes begin at i
+unfoldable pub halfAt : List ℕ → ℕ → ℕ
+halfAt s i = getD s i 0 + 256 * getD s (i + 1) 0 + 65536 * getD s (i + 2) 0 + 16777216 * getD s (i + 3) 0
+
+-- the word whose eight bytes begin at i
+unfoldable pub wordAt : List ℕ → ℕ → ℕ
+wordAt s i = halfAt s i + 4294967296 * halfAt s (i + 4)
+
+-- the signed number whose eight bytes begin at i, in two's complement
+abbrev pub numberAt : List ℕ → ℕ → ℤ
+numberAt s i = toZ w64 (wordAt s i)
+
+-- g i, g (i + 1), .., c of them
+unfoldable pub made : {A : Type 0} → (ℕ → A) → ℕ → ℕ → List A
+made g i zero = []
+made g i (suc c) = g i ∷ made g (suc i) c
+
+-- the first c words of the bytes s
+abbrev pub wordsIn : List ℕ → ℕ → List ℕ
+wordsIn s c = made (λ j. wordAt s (8 * j)) 0 c
+
+-- the first c signed numbers of the bytes s
+abbrev pub numbersIn : List ℕ → ℕ → List ℤ
+numbersIn s c = made (λ j. numberAt s (8 * j)) 0 c
+
+-- the eight bytes of a word
+abbrev pub eight : ℕ → List ℕ
+eight w =
+    w % 256 ∷ w / 256 % 256 ∷ w / 65536 % 256 ∷ w / 16777216 % 256
+    ∷ w / 4294967296 % 256 ∷ w / 1099511627776 % 256 ∷ w / 281474976710656 % 256 ∷ w / 72057594037927936 ∷ []
+
+-- the bytes s, those of the word w from i on
+abbrev pub putAt : List ℕ → ℕ → ℕ → List ℕ
+putAt s i w = take i s ++ eight w ++ drop (i + 8) s
+
+-- the bytes of words, in order
+unfoldable pub bytesOf : List ℕ → List ℕ
+bytesOf [] = []
+bytesOf (w ∷ ws) = eight w ++ bytesOf ws
+
+-- the words over the front of the bytes s; what stands past them stays
+abbrev pub wordsOver : List ℕ → List ℕ → List ℕ
+wordsOver ws s = bytesOf ws ++ drop (8 * length ws) s
+
+-- the same of signed numbers, in two's complement
+abbrev pub numbersOver : List ℤ → List ℕ → List ℕ
+numbersOver zs s = wordsOver (map (ofZ w64) zs) s

@@ -1,0 +1,58 @@
+// Answers as one i64: the position; 1 or 0 for yes and no; 0 for a build done; -1 for nothing; -1 less the number for a
+// refusal. A position is at most 2^32, so that it is an i64.
+ghost use mathlib.Core.Path.{_≡_};
+ghost use lib.IntN.{negsuc};
+ghost use Rattle.row.specs.Answer.{numberOf, paperFound, paperTold, paperBuilt, paperRead};
+ghost use Rattle.wire.specs.Answer.{wireOf, Small};
+use row::Built;
+use row::Found;
+use row::Read;
+use row::Refusal;
+use row::Told;
+
+pub fn refused(k: Refusal) -> i64
+    ensures { λ r. ⌜ r ≡ negsuc (numberOf k) ⌝ }
+{
+    -1 - (row::number(k) as i64)
+}
+
+pub fn found(a: Found) -> i64
+    requires { ⌜ Small (paperFound a) ⌝ }
+    ensures { λ r. ⌜ r ≡ wireOf (paperFound a) ⌝ }
+{
+    match a {
+        Found::At(j) => j as i64,
+        Found::Nothing => -1,
+        Found::Refused(k) => refused(k),
+    }
+}
+
+pub fn told(a: Told) -> i64
+    ensures { λ r. ⌜ r ≡ wireOf (paperTold a) ⌝ }
+{
+    match a {
+        Told::Yes => 1,
+        Told::No => 0,
+        Told::Nothing => -1,
+        Told::Refused(k) => refused(k),
+    }
+}
+
+pub fn built(a: Built) -> i64
+    ensures { λ r. ⌜ r ≡ wireOf (paperBuilt a) ⌝ }
+{
+    match a {
+        Built::Done => 0,
+        Built::Refused(k) => refused(k),
+    }
+}
+
+pub fn read(a: Read) -> i64
+    requires { ⌜ Small (paperRead a) ⌝ }
+    ensures { λ r. ⌜ r ≡ wireOf (paperRead a) ⌝ }
+{
+    match a {
+        Read::Bits(n) => n as i64,
+        Read::Refused(k) => refused(k),
+    }
+}

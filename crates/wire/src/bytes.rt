@@ -1,0 +1,82 @@
+// One word or signed number in bytes.
+ghost use mathlib.Core.Path.{_≡_};
+ghost use Prim.Native.Nat.{_+_, _≤_, _<_};
+ghost use lib.ListN.{length};
+ghost use mir.Syntax.{w64};
+ghost use mir.Val.{toZ, ofZ};
+ghost use Rattle.wire.specs.Bytes.{halfAt, wordAt, numberAt, putAt};
+
+// The signed number that has these 64 bits. The least i64 has them too, so nothing is negated.
+fn of_word(w: u64) -> i64
+    ensures { λ r. ⌜ r ≡ toZ w64 w ⌝ }
+{
+    if w < 9223372036854775808 {
+        w as i64
+    } else {
+        -1 - ((18446744073709551615 - w) as i64)
+    }
+}
+
+// The 64 bits of a signed number.
+fn to_word(z: i64) -> u64
+    ensures { λ r. ⌜ r ≡ ofZ w64 z ⌝ }
+{
+    if z < 0 {
+        18446744073709551615 - ((-1 - z) as u64)
+    } else {
+        z as u64
+    }
+}
+
+fn wide(x: u8) -> u64
+    ensures { λ r. ⌜ (r ≡ x) × (r < 256) ⌝ }
+{
+    x as u64
+}
+
+// The number whose four bytes begin at i.
+fn half(b: &[u8], i: usize) -> u64
+    requires { ⌜ i + 4 ≤ length (now b) ⌝ }
+    ensures { λ r. ⌜ (r ≡ halfAt (now (b .entry)) i) × (r < 4294967296) ⌝ }
+{
+    wide(b[i]) + 256 * wide(b[i + 1]) + 65536 * wide(b[i + 2]) + 16777216 * wide(b[i + 3])
+}
+
+// The word whose eight bytes begin at i.
+pub fn word(b: &[u8], i: usize) -> u64
+    requires { ⌜ i + 8 ≤ length (now b) ⌝ }
+    ensures { λ r. ⌜ r ≡ wordAt (now (b .entry)) i ⌝ }
+{
+    half(b, i) + 4294967296 * half(b, i + 4)
+}
+
+// The signed number whose eight bytes begin at i.
+pub fn number(b: &[u8], i: usize) -> i64
+    requires { ⌜ i + 8 ≤ length (now b) ⌝ }
+    ensures { λ r. ⌜ r ≡ numberAt (now (b .entry)) i ⌝ }
+{
+    of_word(word(b, i))
+}
+
+// The eight bytes from i on become those of w.
+pub fn put(b: &mut [u8], i: usize, w: u64)
+    requires { ⌜ i + 8 ≤ length (now b) ⌝ }
+    ensures { λ _. ⌜ now (b .exit) ≡ putAt (now (b .entry)) i w ⌝ }
+{
+    b[i] = (w % 256) as u8;
+    b[i + 1] = (w / 256 % 256) as u8;
+    b[i + 2] = (w / 65536 % 256) as u8;
+    b[i + 3] = (w / 16777216 % 256) as u8;
+    b[i + 4] = (w / 4294967296 % 256) as u8;
+    b[i + 5] = (w / 1099511627776 % 256) as u8;
+    b[i + 6] = (w / 281474976710656 % 256) as u8;
+    b[i + 7] = (w / 72057594037927936) as u8;
+}
+
+// The eight bytes from i on become those of z.
+pub fn put_number(b: &mut [u8], i: usize, z: i64)
+    requires { ⌜ i + 8 ≤ length (now b) ⌝ }
+    ensures { λ _. ⌜ now (b .exit) ≡ putAt (now (b .entry)) i (ofZ w64 z) ⌝ }
+{
+    put(b, i, to_word(z))
+}

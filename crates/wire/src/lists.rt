@@ -1,0 +1,79 @@
+// Runs of words and signed numbers in bytes, from the first byte on.
+ghost use mathlib.Core.Path.{_≡_};
+ghost use Prim.Native.Nat.{_*_, _≤_};
+ghost use lib.ListN.{length, take};
+ghost use Rattle.wire.specs.Limit.{fit};
+ghost use Rattle.wire.specs.Bytes.{wordsIn, numbersIn, wordsOver, numbersOver};
+use crate::bytes::number;
+use crate::bytes::put;
+use crate::bytes::put_number;
+use crate::bytes::word;
+use crate::limit::fitting;
+
+// Each word of out becomes the one at its place in bytes.
+fn read_words(bytes: &[u8], out: &mut [u64])
+    requires { ⌜ 8 * length (now out) ≤ length (now bytes) ⌝ }
+    ensures { λ _. ⌜ now (out .exit) ≡ wordsIn (now (bytes .entry)) (length (now (out .entry))) ⌝ }
+{
+    let mut i = 0;
+    while i < out.len() {
+        out[i] = word(bytes, 8 * i);
+        i += 1;
+    }
+}
+
+// Each number of out becomes the one at its place in bytes.
+fn read_numbers(bytes: &[u8], out: &mut [i64])
+    requires { ⌜ 8 * length (now out) ≤ length (now bytes) ⌝ }
+    ensures { λ _. ⌜ now (out .exit) ≡ numbersIn (now (bytes .entry)) (length (now (out .entry))) ⌝ }
+{
+    let mut i = 0;
+    while i < out.len() {
+        out[i] = number(bytes, 8 * i);
+        i += 1;
+    }
+}
+
+// As many words as out has room for, and how many.
+pub fn take_words(bytes: &[u8], out: &mut [u64]) -> usize
+    ensures { λ r. ⌜ r ≡ fit (length (now (bytes .entry))) (length (now (out .entry))) ⌝ }
+    ensures { λ r. ⌜ take r (now (out .exit)) ≡ wordsIn (now (bytes .entry)) r ⌝ }
+{
+    let c = fitting(bytes.len(), out.len());
+    read_words(bytes, &mut out[..c]);
+    c
+}
+
+// As many numbers as out has room for, and how many.
+pub fn take_numbers(bytes: &[u8], out: &mut [i64]) -> usize
+    ensures { λ r. ⌜ r ≡ fit (length (now (bytes .entry))) (length (now (out .entry))) ⌝ }
+    ensures { λ r. ⌜ take r (now (out .exit)) ≡ numbersIn (now (bytes .entry)) r ⌝ }
+{
+    let c = fitting(bytes.len(), out.len());
+    read_numbers(bytes, &mut out[..c]);
+    c
+}
+
+// The words, from the first byte on; bytes past them stay.
+pub fn write_words(words: &[u64], bytes: &mut [u8])
+    requires { ⌜ 8 * length (now words) ≤ length (now bytes) ⌝ }
+    ensures { λ _. ⌜ now (bytes .exit) ≡ wordsOver (now (words .entry)) (now (bytes .entry)) ⌝ }
+{
+    let mut i = 0;
+    while i < words.len() {
+        put(bytes, 8 * i, words[i]);
+        i += 1;
+    }
+}
+
+// The numbers, from the first byte on; bytes past them stay.
+pub fn write_numbers(numbers: &[i64], bytes: &mut [u8])
+    requires { ⌜ 8 * length (now numbers) ≤ length (now bytes) ⌝ }
+    ensures { λ _. ⌜ now (bytes .exit) ≡ numbersOver (now (numbers .entry)) (now (bytes .entry)) ⌝ }
+{
+    let mut i = 0;
+    while i < numbers.len() {
+        put_number(bytes, 8 * i, numbers[i]);
+        i += 1;
+    }
+}
