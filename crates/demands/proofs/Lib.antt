@@ -19,3 +19,5 @@ pub mod Third
 pub mod Cases
 pub mod Samples
 pub mod ShutOut
+pub mod Agree
+pub mod Worth

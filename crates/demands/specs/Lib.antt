@@ -5,3 +5,4 @@ pub mod First
 pub mod Second
 pub mod Third
 pub mod Cases
+pub mod Worth

@@ -6,4 +6,3 @@ pub mod Numbers
 pub mod Written
 pub mod Opened
 pub mod Sequence
-pub mod Agree

@@ -1,0 +1,37 @@
+-- The worth of each promise: one law for each kind of answer, applied to what each call promises.
+--   itself: what is promised as it is
+--   worth: all of them
+-- Assumes nothing.
+use mathlib.Core.Path.{_≡_, sym, _∙_}
+use lib.ListN.{length}
+use Rattle.row.specs.Answer.{numberOf}
+use Rattle.text.specs.Text.{textWords}
+use Rattle.scan.specs.OneTree.{oneTreeAnswer}
+use Rattle.mmt.specs.Build.{builtNodes}
+use Rattle.mmt.specs.Check.{asBuiltAnswer}
+use Rattle.listing.specs.Listing.{made, stepped}
+use Rattle.listing.specs.Whole.{countOf, leftOf}
+use Rattle.demands.specs.Questions.{promised}
+use Rattle.demands.specs.First.{buildAnswer, readAnswer}
+use Rattle.demands.specs.Worth.{Itself, Worth}
+use Rattle.demands.proofs.Agree.{one-found, one-told, one-built, one-read, one-listed, one-made, one-step}
+
+itself : {A : Type 0} (d : A) → Itself d
+itself d a b e f = e ∙ sym f
+
+pub worth : Worth
+worth = record {
+  found = λ ws n s B q. one-found (promised ws n s B q);
+  told = λ ws n s B q. one-told (promised ws n s B q);
+  one-tree = λ ws n. one-told (oneTreeAnswer ws n);
+  as-built = λ ws n s B. one-told (asBuiltAnswer ws n s B);
+  build = λ ws n s B. one-built (buildAnswer ws n s B);
+  build-left = λ ws n s B. itself (builtNodes ws n s B);
+  read = λ text ws. one-read (readAnswer text ws);
+  read-left = λ text ws. itself (textWords text ws);
+  made-listing = λ rising ws n s B v. one-made (made rising ws n s B v);
+  step = λ l. one-step (stepped l);
+  list = λ rising ws n s B v c. one-listed (countOf rising ws n s B v c);
+  list-left = λ rising ws n s B v out. itself (leftOf rising ws n s B v out);
+  number = λ k. itself (numberOf k);
+}
