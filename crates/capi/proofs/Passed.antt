@@ -21,7 +21,7 @@ use Rattle.mmt.specs.Build.{builtNodes}
 use Rattle.mmt.proofs.Admitted.{gate-fine}
 use Rattle.mmt.proofs.Written.{written-length}
 use Rattle.walk.specs.Walk.{walk}
-use Rattle.bp.specs.Searches.{searchAnswer}
+use Rattle.search.specs.Searches.{searchAnswer}
 use Rattle.demands.specs.First.{May}
 use Rattle.demands.proofs.Walked.{walk-may}
 use Rattle.wire.specs.Answer.{Small}

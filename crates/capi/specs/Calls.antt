@@ -8,8 +8,8 @@ use Rattle.row.specs.Answer.{at}
 use Rattle.row.specs.Gates.{through, kept}
 use Rattle.mmt.specs.Layout.{nodesGate}
 use Rattle.mmt.specs.Nodes.{written}
-use Rattle.bp.specs.Searches.{fwdAnswer, bwdAnswer, outward}
-use Rattle.bp.specs.Navigation.{ancestorAnswer}
+use Rattle.search.specs.Searches.{fwdAnswer, bwdAnswer, outward}
+use Rattle.family.specs.Family.{ancestorAnswer}
 use Rattle.wire.specs.Answer.{wireOf}
 use Rattle.wire.specs.Limit.{wordRoom, numberRoom, wireBits, fit}
 use Rattle.wire.specs.Bytes.{wordsIn, numbersIn, numbersOver}

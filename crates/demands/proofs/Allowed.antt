@@ -15,10 +15,13 @@ use Rattle.row.specs.Gates.{rowGate, handleGate, through, andThen}
 use Rattle.row.specs.Way.{Way, forward, backward}
 use Rattle.mmt.specs.Layout.{nodesGate}
 use Rattle.walk.specs.Walk.{walk}
-use Rattle.bp.specs.Calls as call
-use Rattle.bp.specs.Calls.{Searches, walked}
-use Rattle.bp.specs.Searches.{searchAnswer, outward}
-use Rattle.bp.specs.Navigation.{handleAnswer, nodeAnswer, bothGate, ancestorAnswer, levelAnswer, rightmostAnswer}
+use Rattle.family.specs.Family as family
+use Rattle.level.specs.Levels as level
+use Rattle.search.specs.Composed.{Searches, walked}
+use Rattle.search.specs.Searches.{searchAnswer, outward}
+use Rattle.search.specs.Handles.{handleAnswer, nodeAnswer}
+use Rattle.family.specs.Family.{bothGate, ancestorAnswer}
+use Rattle.level.specs.Levels.{levelAnswer, rightmostAnswer}
 use Rattle.demands.specs.Questions.{Question, fwdSearch, bwdSearch, closeOf, openOf, enclose, root, parent, firstChild, lastChild, nextSibling, previousSibling, isLeaf, isAncestor, levelAncestor, levelNext, levelPrev, levelLeftmost, levelRightmost, promised}
 use Rattle.demands.specs.Listing.{Among}
 use Rattle.demands.specs.Handles.{Handle}
@@ -95,7 +98,7 @@ module _ (ws : List ℕ) (n : ℕ) (s : List ℤ) (B : ℕ) where
   ancestor-may : (a d : ℕ) → May 2 held (ancestorAnswer ws n s B a d)
   unfolding ancestorAnswer
   ancestor-may a d =
-      held-may 2 (bothGate ws n a d) (call.isAncestor ws n walks a d)
+      held-may 2 (bothGate ws n a d) (family.isAncestor ws n walks a d)
       (shut-then held (handleGate ws n a) (handleGate ws n d) (handle-shut a) (handle-shut d))
       (λ g. may-ancestor (8 ∷ []) ws n walks fwd-may bwd-may a d)
 
@@ -112,19 +115,19 @@ module _ (ws : List ℕ) (n : ℕ) (s : List ℤ) (B : ℕ) where
   answers-may (closeOf i) = search-may forward i (negsuc 0)
   answers-may (openOf i) = search-may backward i (negsuc 0)
   answers-may (enclose i) = search-may backward i (outward ws n i)
-  answers-may root = may-through (2 ∷ 3 ∷ []) n row (call.root n) (shut-row (2 ∷ 3 ∷ []) (length ws) n one two) (λ g. may-root (2 ∷ 3 ∷ []) ws n)
-  answers-may (parent v) = node-may call.parent v (λ h. may-parent (8 ∷ []) ws n walks fwd-may bwd-may v)
-  answers-may (firstChild v) = bare-may n call.firstChild v (may-first-child bare ws n v)
-  answers-may (lastChild v) = node-may call.lastChild v (λ h. may-last-child (8 ∷ []) ws n walks fwd-may bwd-may v)
-  answers-may (nextSibling v) = node-may call.nextSibling v (λ h. may-next-sibling (8 ∷ []) ws n walks fwd-may bwd-may v)
-  answers-may (previousSibling v) = node-may call.previousSibling v (λ h. may-previous-sibling (8 ∷ []) ws n walks fwd-may bwd-may v)
-  answers-may (isLeaf v) = bare-may 2 call.isLeaf v (may-leaf bare ws n v)
+  answers-may root = may-through (2 ∷ 3 ∷ []) n row (family.root n) (shut-row (2 ∷ 3 ∷ []) (length ws) n one two) (λ g. may-root (2 ∷ 3 ∷ []) ws n)
+  answers-may (parent v) = node-may family.parent v (λ h. may-parent (8 ∷ []) ws n walks fwd-may bwd-may v)
+  answers-may (firstChild v) = bare-may n family.firstChild v (may-first-child bare ws n v)
+  answers-may (lastChild v) = node-may family.lastChild v (λ h. may-last-child (8 ∷ []) ws n walks fwd-may bwd-may v)
+  answers-may (nextSibling v) = node-may family.nextSibling v (λ h. may-next-sibling (8 ∷ []) ws n walks fwd-may bwd-may v)
+  answers-may (previousSibling v) = node-may family.previousSibling v (λ h. may-previous-sibling (8 ∷ []) ws n walks fwd-may bwd-may v)
+  answers-may (isLeaf v) = bare-may 2 family.isLeaf v (may-leaf bare ws n v)
   answers-may (isAncestor a d) = ancestor-may a d
   answers-may (levelAncestor v k) =
-      node-may (call.levelAncestor k) v (λ h. may-level-ancestor (8 ∷ []) ws n walks fwd-may bwd-may k v (opens-low ws n v h))
-  answers-may (levelNext v) = node-may call.levelNext v (λ h. may-next (8 ∷ []) ws n walks fwd-may bwd-may v)
-  answers-may (levelPrev v) = node-may call.levelPrev v (λ h. may-prev (8 ∷ []) ws n walks fwd-may bwd-may v)
-  answers-may (levelLeftmost k) = free-may (call.levelLeftmost ws n walks k) (may-leftmost (8 ∷ []) ws n walks fwd-may bwd-may k)
+      node-may (level.levelAncestor k) v (λ h. may-level-ancestor (8 ∷ []) ws n walks fwd-may bwd-may k v (opens-low ws n v h))
+  answers-may (levelNext v) = node-may level.levelNext v (λ h. may-next (8 ∷ []) ws n walks fwd-may bwd-may v)
+  answers-may (levelPrev v) = node-may level.levelPrev v (λ h. may-prev (8 ∷ []) ws n walks fwd-may bwd-may v)
+  answers-may (levelLeftmost k) = free-may (level.levelLeftmost ws n walks k) (may-leftmost (8 ∷ []) ws n walks fwd-may bwd-may k)
   answers-may (levelRightmost k) =
-      free-may (call.levelRightmost ws n walks (call.rootStart n s) k)
-      (may-rightmost (8 ∷ []) ws n walks fwd-may bwd-may n (call.rootStart n s) (root-may n s) k)
+      free-may (level.levelRightmost ws n walks (level.rootStart n s) k)
+      (may-rightmost (8 ∷ []) ws n walks fwd-may bwd-may n (level.rootStart n s) (root-may n s) k)

@@ -18,12 +18,15 @@ use Rattle.mmt.specs.Layout.{nodesGate, Fine}
 use Rattle.mmt.specs.Nodes.{AsBuilt}
 use Rattle.mmt.proofs.Admitted.{fine-gate}
 use Rattle.walk.proofs.Right.{walk-forward, walk-backward}
-use Rattle.bp.specs.Calls as call
-use Rattle.bp.specs.Calls.{Searches, walked, defined}
-use Rattle.bp.specs.Searches.{searchAnswer, outward}
-use Rattle.bp.specs.Navigation.{handleAnswer, nodeAnswer, nodeDefined, bothGate, ancestorAnswer, ancestorDefined, levelAnswer, rightmostAnswer, rightmostDefined}
-use Rattle.bp.proofs.Defined.{searches-defined}
-use Rattle.bp.proofs.Rightmost.{rightmost-right}
+use Rattle.family.specs.Family as family
+use Rattle.level.specs.Levels as level
+use Rattle.search.specs.Composed.{Searches, walked, defined}
+use Rattle.search.specs.Searches.{searchAnswer, outward}
+use Rattle.search.specs.Handles.{handleAnswer, nodeAnswer, nodeDefined}
+use Rattle.family.specs.Family.{bothGate, ancestorAnswer, ancestorDefined}
+use Rattle.level.specs.Levels.{levelAnswer, rightmostAnswer, rightmostDefined}
+use Rattle.search.proofs.Defined.{searches-defined}
+use Rattle.level.proofs.Rightmost.{rightmost-right}
 use Rattle.demands.specs.Questions.{Question, fwdSearch, bwdSearch, closeOf, openOf, enclose, root, parent, firstChild, lastChild, nextSibling, previousSibling, isLeaf, isAncestor, levelAncestor, levelNext, levelPrev, levelLeftmost, levelRightmost, promised, definition}
 use Rattle.demands.specs.Handles.{Handle}
 use Rattle.demands.specs.First.{kind, May}
@@ -73,16 +76,16 @@ module _ (ws : List ℕ) (n : ℕ) (s : List ℤ) (B : ℕ) (fine : Fine (length
   equal (openOf i) = bwd-equal i (negsuc 0)
   equal (enclose i) = bwd-equal i (outward ws n i)
   equal root = rw row
-  equal (parent v) = node-equal call.parent v
-  equal (firstChild v) = handle-equal call.firstChild v
-  equal (lastChild v) = node-equal call.lastChild v
-  equal (nextSibling v) = node-equal call.nextSibling v
-  equal (previousSibling v) = node-equal call.previousSibling v
-  equal (isLeaf v) = handle-equal call.isLeaf v
+  equal (parent v) = node-equal family.parent v
+  equal (firstChild v) = handle-equal family.firstChild v
+  equal (lastChild v) = node-equal family.lastChild v
+  equal (nextSibling v) = node-equal family.nextSibling v
+  equal (previousSibling v) = node-equal family.previousSibling v
+  equal (isLeaf v) = handle-equal family.isLeaf v
   equal (isAncestor a d) = ancestor-equal a d
-  equal (levelAncestor v k) = node-equal (call.levelAncestor k) v
-  equal (levelNext v) = node-equal call.levelNext v
-  equal (levelPrev v) = node-equal call.levelPrev v
+  equal (levelAncestor v k) = node-equal (level.levelAncestor k) v
+  equal (levelNext v) = node-equal level.levelNext v
+  equal (levelPrev v) = node-equal level.levelPrev v
   equal (levelLeftmost k) = rw (gate, searches)
   equal (levelRightmost k) = rw (gate, searches) (rightmost-right ws n B s blocks (fine .short) built k)
 
@@ -108,7 +111,7 @@ module _ (ws : List ℕ) (n : ℕ) where
   both-may : (a d : ℕ) → May 2 bad (ancestorDefined ws n a d)
   unfolding ancestorDefined
   both-may a d =
-      may-through bad 2 (bothGate ws n a d) (call.isAncestor ws n (defined ws n) a d)
+      may-through bad 2 (bothGate ws n a d) (family.isAncestor ws n (defined ws n) a d)
       (shut-then bad (handleGate ws n a) (handleGate ws n d)
       (shut-handle bad ws n a (List·Memᴰ·head refl)) (shut-handle bad ws n d (List·Memᴰ·head refl)))
       (λ g. may-ancestor bad ws n (defined ws n) ahead-may behind-may a d)
@@ -121,19 +124,19 @@ module _ (ws : List ℕ) (n : ℕ) where
   defined-may (openOf i) = behind-may i (negsuc 0)
   defined-may (enclose i) = behind-may i (outward ws n i)
   defined-may root = may-root bad ws n
-  defined-may (parent v) = node-may call.parent v (λ h. may-parent bad ws n (defined ws n) ahead-may behind-may v)
-  defined-may (firstChild v) = held-may n v (call.firstChild ws n v) (λ h. may-first-child bad ws n v)
-  defined-may (lastChild v) = node-may call.lastChild v (λ h. may-last-child bad ws n (defined ws n) ahead-may behind-may v)
-  defined-may (nextSibling v) = node-may call.nextSibling v (λ h. may-next-sibling bad ws n (defined ws n) ahead-may behind-may v)
-  defined-may (previousSibling v) = node-may call.previousSibling v (λ h. may-previous-sibling bad ws n (defined ws n) ahead-may behind-may v)
-  defined-may (isLeaf v) = held-may 2 v (call.isLeaf ws n v) (λ h. may-leaf bad ws n v)
+  defined-may (parent v) = node-may family.parent v (λ h. may-parent bad ws n (defined ws n) ahead-may behind-may v)
+  defined-may (firstChild v) = held-may n v (family.firstChild ws n v) (λ h. may-first-child bad ws n v)
+  defined-may (lastChild v) = node-may family.lastChild v (λ h. may-last-child bad ws n (defined ws n) ahead-may behind-may v)
+  defined-may (nextSibling v) = node-may family.nextSibling v (λ h. may-next-sibling bad ws n (defined ws n) ahead-may behind-may v)
+  defined-may (previousSibling v) = node-may family.previousSibling v (λ h. may-previous-sibling bad ws n (defined ws n) ahead-may behind-may v)
+  defined-may (isLeaf v) = held-may 2 v (family.isLeaf ws n v) (λ h. may-leaf bad ws n v)
   defined-may (isAncestor a d) = both-may a d
   defined-may (levelAncestor v k) =
-      node-may (call.levelAncestor k) v (λ h. may-level-ancestor bad ws n (defined ws n) ahead-may behind-may k v (opens-low ws n v h))
-  defined-may (levelNext v) = node-may call.levelNext v (λ h. may-next bad ws n (defined ws n) ahead-may behind-may v)
-  defined-may (levelPrev v) = node-may call.levelPrev v (λ h. may-prev bad ws n (defined ws n) ahead-may behind-may v)
+      node-may (level.levelAncestor k) v (λ h. may-level-ancestor bad ws n (defined ws n) ahead-may behind-may k v (opens-low ws n v h))
+  defined-may (levelNext v) = node-may level.levelNext v (λ h. may-next bad ws n (defined ws n) ahead-may behind-may v)
+  defined-may (levelPrev v) = node-may level.levelPrev v (λ h. may-prev bad ws n (defined ws n) ahead-may behind-may v)
   defined-may (levelLeftmost k) = may-leftmost bad ws n (defined ws n) ahead-may behind-may k
-  defined-may (levelRightmost k) = may-rightmost bad ws n (defined ws n) ahead-may behind-may _ (call.lastStart ws n) (last-may ws n bad) k
+  defined-may (levelRightmost k) = may-rightmost bad ws n (defined ws n) ahead-may behind-may _ (level.lastStart ws n) (last-may ws n bad) k
 
   pub only-five : (q : Question) (k : ℕ) → definition ws n q ≡ refused k → k ≡ 5
   only-five q k e = List·Memᴰ·eq-of-singleton (rw e at (defined-may q))

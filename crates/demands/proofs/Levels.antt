@@ -21,8 +21,9 @@ use Rattle.row.specs.Answer.{Answer, at}
 use Rattle.row.specs.Excess.{E}
 use Rattle.row.specs.Search.{before, fwd, bwd}
 use Rattle.row.specs.Tree.{OneTree}
-use Rattle.bp.specs.Calls.{defined, onward, openOf, ones, levelLeftmost, levelNext, levelPrev, levelRightmost, lastStart}
-use Rattle.bp.proofs.Rightmost.{E-ones}
+use Rattle.search.specs.Composed.{defined, onward, openOf}
+use Rattle.level.specs.Levels.{ones, levelLeftmost, levelNext, levelPrev, levelRightmost, lastStart}
+use Rattle.level.proofs.Rightmost.{E-ones}
 use Rattle.demands.specs.Handles.{atDepth}
 use Rattle.demands.proofs.Nexts.{next, prev, next-yes, next-skip, prev-skip, prev-none, Near, nearest}
 use Rattle.demands.proofs.Turns.{Stands, turn, stands, at-depth, not-depth, first-deep}
@@ -31,8 +32,8 @@ use Rattle.demands.proofs.Closing.{bwd-prev, open-deep, E-zero, closing
 module _ (ws : List ℕ) (n : ℕ) where
   -- from where the excess and r make k + 1, back by r and then to the open
   back-twice : (k r : ℤ) (x m : ℕ) → x < n → x ≤ m → E ws x +ℤ r ≡ k +ℤ pos 1 → ((y : ℕ) → x ≤ suc y → y < m → Stands ws n k y → ⊥)
-      → onward (bwd ws n x r) (openOf ws n (defined ws n)) ≡ prev (atDepth ws n k) m
-  back-twice k r x m l u w f = ap (λ (a : Answer). onward a (openOf ws n (defined ws n))) (bwd-prev ws n x r l) ∙ go (nearest p x)
+      → onward (bwd ws n x r) (openOf (defined ws n)) ≡ prev (atDepth ws n k) m
+  back-twice k r x m l u w f = ap (λ (a : Answer). onward a (openOf (defined ws n))) (bwd-prev ws n x r l) ∙ go (nearest p x)
     where
       p : ℕ → Bool
       p = before (E ws) (E ws x +ℤ r)
@@ -41,7 +42,7 @@ module _ (ws : List ℕ) (n : ℕ) where
       none : (y : ℕ) → y < m → (suc y < x → p (suc y) ≡ false) → Stands ws n k y → ⊥
       none y b g s = elim (decLt (suc y) x) [ yes a ↦ eqZ-false (E ws (suc y)) (E ws x +ℤ r) (g a) (s .over ∙ sym w) | no a ↦ f y (omega arith) b s ]
 
-      go : ((j : ℕ) × Near p x j) ⊎ ((y : ℕ) → y < x → p y ≡ false) → onward (prev p x) (openOf ws n (defined ws n)) ≡ prev (atDepth ws n k) m
+      go : ((j : ℕ) × Near p x j) ⊎ ((y : ℕ) → y < x → p y ≡ false) → onward (prev p x) (openOf (defined ws n)) ≡ prev (atDepth ws n k) m
       go (inl (j, h)) =
           let d : E ws j ≡ k +ℤ pos 1 = eqZ-true (E ws j) (E ws x +ℤ r) (h .has) ∙ w in
           let skip = prev-skip (atDepth ws n k) j m (omega arith) (λ y a b. not-depth ws n k y (none y b (λ c. h .rest (suc y) (omega arith) c))) in

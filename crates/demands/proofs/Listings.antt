@@ -15,7 +15,7 @@ use Rattle.row.specs.Gates.{rowGate}
 use Rattle.row.proofs.Gates.{row-open}
 use Rattle.mmt.specs.Layout.{Fine}
 use Rattle.mmt.proofs.Admitted.{fine-gate}
-use Rattle.bp.specs.Navigation.{handleAnswer, nodeAnswer}
+use Rattle.search.specs.Handles.{handleAnswer, nodeAnswer}
 use Rattle.listing.specs.Listing.{Listing, sought, making, begun, after, made}
 use Rattle.listing.specs.Steps.{answerAt, nth}
 use Rattle.listing.proofs.Sequence.{ended}

@@ -13,10 +13,13 @@ use Rattle.row.specs.Gates.{handleGate, through}
 use Rattle.row.specs.Way.{Way, forward, backward}
 use Rattle.mmt.specs.Layout.{nodesGate}
 use Rattle.walk.specs.Walk.{walk}
-use Rattle.bp.specs.Calls as call
-use Rattle.bp.specs.Calls.{Searches, walked}
-use Rattle.bp.specs.Searches.{searchAnswer, outward}
-use Rattle.bp.specs.Navigation.{handleAnswer, nodeAnswer, bothGate, ancestorAnswer, levelAnswer, rightmostAnswer}
+use Rattle.family.specs.Family as family
+use Rattle.level.specs.Levels as level
+use Rattle.search.specs.Composed.{Searches, walked}
+use Rattle.search.specs.Searches.{searchAnswer, outward}
+use Rattle.search.specs.Handles.{handleAnswer, nodeAnswer}
+use Rattle.family.specs.Family.{bothGate, ancestorAnswer}
+use Rattle.level.specs.Levels.{levelAnswer, rightmostAnswer}
 use Rattle.demands.specs.Questions.{Question, fwdSearch, bwdSearch, closeOf, openOf, enclose, root, parent, firstChild, lastChild, nextSibling, previousSibling, isLeaf, isAncestor, levelAncestor, levelNext, levelPrev, levelLeftmost, levelRightmost, promised}
 use Rattle.demands.specs.First.{overNodes, overRow, kind, InOrder}
 use Rattle.demands.proofs.Tested.{refuses-one, refuses-both, nodes-order, row-order, then-open}
@@ -50,16 +53,16 @@ module _ (ws : List ℕ) (n : ℕ) (s : List ℤ) (B : ℕ) where
   order-of (closeOf i) = search-order forward i (negsuc 0)
   order-of (openOf i) = search-order backward i (negsuc 0)
   order-of (enclose i) = search-order backward i (outward ws n i)
-  order-of root = rw then-open at (row-order ws n s B n [] Open (call.root n) (λ v i f. absurd (List·Memᴰ·not-nil i)))
-  order-of (parent v) = node-order call.parent v
-  order-of (firstChild v) = bare-order n call.firstChild v
-  order-of (lastChild v) = node-order call.lastChild v
-  order-of (nextSibling v) = node-order call.nextSibling v
-  order-of (previousSibling v) = node-order call.previousSibling v
-  order-of (isLeaf v) = bare-order 2 call.isLeaf v
-  order-of (isAncestor a d) = nodes-order ws n s B 2 (a ∷ d ∷ []) (bothGate ws n a d) (call.isAncestor ws n walks a d) (refuses-both ws n a d)
-  order-of (levelAncestor v k) = node-order (call.levelAncestor k) v
-  order-of (levelNext v) = node-order call.levelNext v
-  order-of (levelPrev v) = node-order call.levelPrev v
-  order-of (levelLeftmost k) = free-order (call.levelLeftmost ws n walks k)
-  order-of (levelRightmost k) = free-order (call.levelRightmost ws n walks (call.rootStart n s) k)
+  order-of root = rw then-open at (row-order ws n s B n [] Open (family.root n) (λ v i f. absurd (List·Memᴰ·not-nil i)))
+  order-of (parent v) = node-order family.parent v
+  order-of (firstChild v) = bare-order n family.firstChild v
+  order-of (lastChild v) = node-order family.lastChild v
+  order-of (nextSibling v) = node-order family.nextSibling v
+  order-of (previousSibling v) = node-order family.previousSibling v
+  order-of (isLeaf v) = bare-order 2 family.isLeaf v
+  order-of (isAncestor a d) = nodes-order ws n s B 2 (a ∷ d ∷ []) (bothGate ws n a d) (family.isAncestor ws n walks a d) (refuses-both ws n a d)
+  order-of (levelAncestor v k) = node-order (level.levelAncestor k) v
+  order-of (levelNext v) = node-order level.levelNext v
+  order-of (levelPrev v) = node-order level.levelPrev v
+  order-of (levelLeftmost k) = free-order (level.levelLeftmost ws n walks k)
+  order-of (levelRightmost k) = free-order (level.levelRightmost ws n walks (level.rootStart n s) k)

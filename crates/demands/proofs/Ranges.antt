@@ -15,8 +15,10 @@ use lib.IntN.{ℤ, pos, negsuc, negℤ}
 use Rattle.row.specs.Answer.{Answer, at, nothing, refused}
 use Rattle.row.specs.Tree.{opens, closes}
 use Rattle.row.proofs.Bools.{and-right}
-use Rattle.bp.specs.Calls.{Searches, onward, told, handleAt, root, firstChild, isLeaf, parent, lastChild, nextSibling, previousSibling, isAncestor, levelNext, levelPrev, levelLeftmost, levelRightmost, levelAncestor}
-use Rattle.bp.specs.Searches.{outward}
+use Rattle.search.specs.Composed.{Searches, onward, told, handleAt}
+use Rattle.family.specs.Family.{root, firstChild, isLeaf, parent, lastChild, nextSibling, previousSibling, isAncestor}
+use Rattle.level.specs.Levels.{levelNext, levelPrev, levelLeftmost, levelRightmost, levelAncestor}
+use Rattle.search.specs.Searches.{outward}
 use Rattle.demands.specs.Listing.{Among}
 use Rattle.demands.specs.First.{May}
 use Rattle.demands.proofs.Turns.{opens-low}

@@ -23,7 +23,7 @@ use Rattle.row.specs.Tree.{opens}
 use Rattle.row.proofs.Gates.{row-many, row-few, row-open}
 use Rattle.mmt.specs.Layout.{width, count, blockGate, roomGate, nodesGate}
 use Rattle.mmt.proofs.Admitted.{block-open, room-few, gate-block, gate-row, gate-room, fine-gate}
-use Rattle.bp.specs.Navigation.{bothGate}
+use Rattle.family.specs.Family.{bothGate}
 use Rattle.demands.specs.Listing.{Among}
 use Rattle.demands.specs.Handles.{Handle}
 use Rattle.demands.specs.First.{overNodes, overRow, May, BlockSize, InOrder}

@@ -21,9 +21,11 @@ use Rattle.row.specs.Tree.{OneTree}
 use Rattle.mmt.specs.Layout.{Fine}
 use Rattle.mmt.specs.Nodes.{AsBuilt}
 use Rattle.mmt.specs.Build.{builtNodes}
-use Rattle.bp.specs.Calls as call
-use Rattle.bp.specs.Calls.{Searches, defined}
-use Rattle.bp.specs.Navigation.{nodeDefined, rightmostDefined}
+use Rattle.family.specs.Family as family
+use Rattle.level.specs.Levels as level
+use Rattle.search.specs.Composed.{Searches, defined}
+use Rattle.search.specs.Handles.{nodeDefined}
+use Rattle.level.specs.Levels.{rightmostDefined}
 use Rattle.demands.specs.Questions.{Question, parent, firstChild, lastChild, nextSibling, previousSibling, levelNext, levelPrev, levelLeftmost, levelRightmost, promised, definition}
 use Rattle.demands.specs.Handles.{Handle, atDepth, childOf, children}
 use Rattle.demands.specs.Third.{Tours, Third}
@@ -61,9 +63,9 @@ module _ (ws : List ℕ) (n : ℕ) where
     unfolding rightmostDefined
     tours-defined = record {
       level-rises = λ k. rises (atDepth ws n (pos k)) ask levelNext n (levelLeftmost k) (is (levelLeftmost k) ∙ leftmost ws n t k)
-          (λ v h. by (levelNext v) call.levelNext v refl (stands ws n (pos k) v h .open-is) ∙ level-next ws n t (pos k) v h);
+          (λ v h. by (levelNext v) level.levelNext v refl (stands ws n (pos k) v h .open-is) ∙ level-next ws n t (pos k) v h);
       level-falls = λ l k. falls (atDepth ws n (pos k)) ask levelPrev n (levelRightmost k) (is (levelRightmost k) ∙ rightmost ws n t k l)
-          (λ v h. by (levelPrev v) call.levelPrev v refl (stands ws n (pos k) v h .open-is) ∙ level-prev ws n t (pos k) v h);
+          (λ v h. by (levelPrev v) level.levelPrev v refl (stands ws n (pos k) v h .open-is) ∙ level-prev ws n t (pos k) v h);
       too-deep = λ k f. (
         none-those (atDepth ws n (pos k)) n 0 (λ v a b. shallow k f v),
         is (levelLeftmost k) ∙ leftmost ws n t k ∙ next-none (atDepth ws n (pos k)) n 0 (λ v a b. shallow k f v),
@@ -71,12 +73,12 @@ module _ (ws : List ℕ) (n : ℕ) where
       children-rise = λ v o.
           let (e, d) = closing ws n t v o in
           rises (childOf ws n v) ask nextSibling n (firstChild v)
-          (is (firstChild v) ∙ passed v (call.firstChild ws n v) o ∙ first-child ws n t v e o d)
-          (λ w h. by (nextSibling w) call.nextSibling w refl (kid ws n t v e o d w h .open-is) ∙ next-sibling ws n t v e o d w h);
+          (is (firstChild v) ∙ passed v (family.firstChild ws n v) o ∙ first-child ws n t v e o d)
+          (λ w h. by (nextSibling w) family.nextSibling w refl (kid ws n t v e o d w h .open-is) ∙ next-sibling ws n t v e o d w h);
       children-fall = λ v o.
           let (e, d) = closing ws n t v o in
-          falls (childOf ws n v) ask previousSibling n (lastChild v) (by (lastChild v) call.lastChild v refl o ∙ last-child ws n t v e o d)
-          (λ w h. by (previousSibling w) call.previousSibling w refl (kid ws n t v e o d w h .open-is) ∙ previous-sibling ws n t v e o d w h);
+          falls (childOf ws n v) ask previousSibling n (lastChild v) (by (lastChild v) family.lastChild v refl o ∙ last-child ws n t v e o d)
+          (λ w h. by (previousSibling w) family.previousSibling w refl (kid ws n t v e o d w h .open-is) ∙ previous-sibling ws n t v e o d w h);
       one-parent = λ w o h.
           let (u, p) = parent-of ws n t w o h in
           let l = opens-low ws n w o in (
@@ -85,7 +87,7 @@ module _ (ws : List ℕ) (n : ℕ) where
               handle = p .open-is;
               child = among (childOf ws n u) w n 0 (omega arith) (omega arith) (p .child);
               only = λ v q m. p .only v q (among-has (childOf ws n v) w n 0 m .passes);
-              named = by (parent w) call.parent w refl o ∙ p .is;
+              named = by (parent w) family.parent w refl o ∙ p .is;
             },
           );
       root-none = λ v m. never-true (sym (root-no-child ws n t v) ∙ among-has (childOf ws n v) 0 n 0 m .passes);

@@ -8,10 +8,13 @@ use lib.ListN.{length}
 use Rattle.row.specs.Answer.{Answer}
 use Rattle.row.specs.Gates.{rowGate, handleGate, through}
 use Rattle.row.specs.Search as search
-use Rattle.bp.specs.Searches.{fwdAnswer, bwdAnswer, outward}
-use Rattle.bp.specs.Calls as call
-use Rattle.bp.specs.Calls.{defined}
-use Rattle.bp.specs.Navigation.{handleAnswer, nodeAnswer, nodeDefined, ancestorAnswer, ancestorDefined, levelAnswer, rightmostAnswer, rightmostDefined}
+use Rattle.search.specs.Searches.{fwdAnswer, bwdAnswer, outward}
+use Rattle.family.specs.Family as family
+use Rattle.level.specs.Levels as level
+use Rattle.search.specs.Composed.{defined}
+use Rattle.search.specs.Handles.{handleAnswer, nodeAnswer, nodeDefined}
+use Rattle.family.specs.Family.{ancestorAnswer, ancestorDefined}
+use Rattle.level.specs.Levels.{levelAnswer, rightmostAnswer, rightmostDefined}
 
 -- a call and what it is asked: a position and an excess r, a position, a handle, two handles, a handle and a level, a level
 pub data Question : Type 0 where
@@ -41,18 +44,18 @@ promised ws n s B (bwdSearch i r) = bwdAnswer ws n s B i r
 promised ws n s B (closeOf i) = fwdAnswer ws n s B i (negsuc 0)
 promised ws n s B (openOf i) = bwdAnswer ws n s B i (negsuc 0)
 promised ws n s B (enclose i) = bwdAnswer ws n s B i (outward ws n i)
-promised ws n s B root = through (rowGate (length ws) n) (call.root n)
-promised ws n s B (parent v) = nodeAnswer call.parent ws n s B v
-promised ws n s B (firstChild v) = handleAnswer call.firstChild ws n v
-promised ws n s B (lastChild v) = nodeAnswer call.lastChild ws n s B v
-promised ws n s B (nextSibling v) = nodeAnswer call.nextSibling ws n s B v
-promised ws n s B (previousSibling v) = nodeAnswer call.previousSibling ws n s B v
-promised ws n s B (isLeaf v) = handleAnswer call.isLeaf ws n v
+promised ws n s B root = through (rowGate (length ws) n) (family.root n)
+promised ws n s B (parent v) = nodeAnswer family.parent ws n s B v
+promised ws n s B (firstChild v) = handleAnswer family.firstChild ws n v
+promised ws n s B (lastChild v) = nodeAnswer family.lastChild ws n s B v
+promised ws n s B (nextSibling v) = nodeAnswer family.nextSibling ws n s B v
+promised ws n s B (previousSibling v) = nodeAnswer family.previousSibling ws n s B v
+promised ws n s B (isLeaf v) = handleAnswer family.isLeaf ws n v
 promised ws n s B (isAncestor a d) = ancestorAnswer ws n s B a d
-promised ws n s B (levelAncestor v k) = nodeAnswer (call.levelAncestor k) ws n s B v
-promised ws n s B (levelNext v) = nodeAnswer call.levelNext ws n s B v
-promised ws n s B (levelPrev v) = nodeAnswer call.levelPrev ws n s B v
-promised ws n s B (levelLeftmost k) = levelAnswer call.levelLeftmost ws n s B k
+promised ws n s B (levelAncestor v k) = nodeAnswer (level.levelAncestor k) ws n s B v
+promised ws n s B (levelNext v) = nodeAnswer level.levelNext ws n s B v
+promised ws n s B (levelPrev v) = nodeAnswer level.levelPrev ws n s B v
+promised ws n s B (levelLeftmost k) = levelAnswer level.levelLeftmost ws n s B k
 promised ws n s B (levelRightmost k) = rightmostAnswer ws n s B k
 
 -- what document 01 defines on a row of n bits; a call on a handle refuses what is none
@@ -62,16 +65,16 @@ definition ws n (bwdSearch i r) = search.bwd ws n i r
 definition ws n (closeOf i) = search.fwd ws n i (negsuc 0)
 definition ws n (openOf i) = search.bwd ws n i (negsuc 0)
 definition ws n (enclose i) = search.bwd ws n i (outward ws n i)
-definition ws n root = call.root n
-definition ws n (parent v) = nodeDefined call.parent ws n v
-definition ws n (firstChild v) = through (handleGate ws n v) (call.firstChild ws n v)
-definition ws n (lastChild v) = nodeDefined call.lastChild ws n v
-definition ws n (nextSibling v) = nodeDefined call.nextSibling ws n v
-definition ws n (previousSibling v) = nodeDefined call.previousSibling ws n v
-definition ws n (isLeaf v) = through (handleGate ws n v) (call.isLeaf ws n v)
+definition ws n root = family.root n
+definition ws n (parent v) = nodeDefined family.parent ws n v
+definition ws n (firstChild v) = through (handleGate ws n v) (family.firstChild ws n v)
+definition ws n (lastChild v) = nodeDefined family.lastChild ws n v
+definition ws n (nextSibling v) = nodeDefined family.nextSibling ws n v
+definition ws n (previousSibling v) = nodeDefined family.previousSibling ws n v
+definition ws n (isLeaf v) = through (handleGate ws n v) (family.isLeaf ws n v)
 definition ws n (isAncestor a d) = ancestorDefined ws n a d
-definition ws n (levelAncestor v k) = nodeDefined (call.levelAncestor k) ws n v
-definition ws n (levelNext v) = nodeDefined call.levelNext ws n v
-definition ws n (levelPrev v) = nodeDefined call.levelPrev ws n v
-definition ws n (levelLeftmost k) = call.levelLeftmost ws n (defined ws n) k
+definition ws n (levelAncestor v k) = nodeDefined (level.levelAncestor k) ws n v
+definition ws n (levelNext v) = nodeDefined level.levelNext ws n v
+definition ws n (levelPrev v) = nodeDefined level.levelPrev ws n v
+definition ws n (levelLeftmost k) = level.levelLeftmost ws n (defined ws n) k
 definition ws n (levelRightmost k) = rightmostDefined ws n k

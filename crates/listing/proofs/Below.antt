@@ -22,9 +22,10 @@ use Rattle.row.specs.Gates.{handleGate, through}
 use Rattle.row.specs.Tree.{opens, closes}
 use Rattle.row.proofs.Bools.{and-left}
 use Rattle.walk.proofs.Inside.{walk-after, walk-before}
-use Rattle.bp.specs.Calls.{Searches, walked, onward, handleAt, closeOf, openOf, firstChild, lastChild, nextSibling, previousSibling}
-use Rattle.bp.specs.Navigation.{nodeAnswer}
-use Rattle.bp.proofs.Nodes.{passed-fine, passed-handle, handle-inside}
+use Rattle.search.specs.Composed.{Searches, walked, onward, handleAt, closeOf, openOf}
+use Rattle.family.specs.Family.{firstChild, lastChild, nextSibling, previousSibling}
+use Rattle.search.specs.Handles.{nodeAnswer}
+use Rattle.search.proofs.Nodes.{passed-fine, passed-handle, handle-inside}
 use Rattle.listing.specs.Listing.{startCall, nextCall, sought, after}
 use Rattle.listing.specs.Whole.{Below}
 use Rattle.listing.proofs.Sought.{tests}
@@ -82,20 +83,20 @@ module _ (ws : List ℕ) (n : ℕ) where
     unfolding firstChild lastChild
     start-on true = only-where (Within true n n) (opens ws n (v + 1)) (at (v + 1)) (λ o. let h = opens-low (v + 1) o in (h, omega arith))
     start-on false =
-        only-where (Within false n n) (opens ws n (v + 1)) (onward (closeOf ws n f v) (λ c. openOf ws n f (c - 1)))
-        (λ o. only-onward (Within false n n) (closeOf ws n f v) (λ c. openOf ws n f (c - 1))
-        (λ c e. let p = walk-after ws n B s pB v (negsuc 0) c e in only (Within false n n) (openOf ws n f (c - 1))
+        only-where (Within false n n) (opens ws n (v + 1)) (onward (closeOf f v) (λ c. openOf f (c - 1)))
+        (λ o. only-onward (Within false n n) (closeOf f v) (λ c. openOf f (c - 1))
+        (λ c e. let p = walk-after ws n B s pB v (negsuc 0) c e in only (Within false n n) (openOf f (c - 1))
         (λ u h. let q = walk-before ws n B s pB (c - 1) (negsuc 0) u h in (omega arith, omega arith))))
 
     next-on : (rising : Bool) → Only (Within rising n (left rising n v)) (nextCall rising ws n f v)
     unfolding nextSibling previousSibling
     next-on true =
-        only-onward (Within true n (left true n v)) (closeOf ws n f v) (λ c. handleAt ws n (c + 1))
+        only-onward (Within true n (left true n v)) (closeOf f v) (λ c. handleAt ws n (c + 1))
         (λ c e. let p = walk-after ws n B s pB v (negsuc 0) c e in only-where (Within true n (left true n v)) (opens ws n (c + 1)) (at (c + 1))
         (λ o. let h = opens-low (c + 1) o in (h, omega arith)))
     next-on false =
-        only-where (Within false n (left false n v)) (ltb 0 v && closes ws n (v - 1)) (openOf ws n f (v - 1))
-        (λ t. only (Within false n (left false n v)) (openOf ws n f (v - 1))
+        only-where (Within false n (left false n v)) (ltb 0 v && closes ws n (v - 1)) (openOf f (v - 1))
+        (λ t. only (Within false n (left false n v)) (openOf f (v - 1))
         (λ u h. let q = walk-before ws n B s pB (v - 1) (negsuc 0) u h in (omega arith, omega arith)))
 
 -- ---- what is held

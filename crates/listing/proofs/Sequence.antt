@@ -23,9 +23,9 @@ use Rattle.row.specs.Gates.{handleGate, through}
 use Rattle.row.specs.Tree.{opens}
 use Rattle.mmt.specs.Layout.{nodesGate}
 use Rattle.mmt.specs.Nodes.{AsBuilt}
-use Rattle.bp.specs.Calls.{Searches, defined, onward}
-use Rattle.bp.specs.Navigation.{nodeAnswer}
-use Rattle.bp.proofs.Defined.{call-defined}
+use Rattle.search.specs.Composed.{Searches, defined, onward}
+use Rattle.search.specs.Handles.{nodeAnswer}
+use Rattle.search.proofs.Defined.{call-defined}
 use Rattle.listing.specs.declared.view.Children.{Children}
 use Rattle.listing.specs.declared.view.Made.{Made}
 use Rattle.listing.specs.declared.view.Step.{Step}

@@ -16,9 +16,9 @@ use Rattle.row.specs.declared.gate.Gate.the-variants.{Open, Shut}
 use Rattle.row.specs.Answer.{Answer, at, nothing, refused, numberOf, paperFound}
 use Rattle.row.specs.Gates.{rowGate, handleGate, andThen}
 use Rattle.mmt.specs.Layout.{blockGate, roomGate, nodesGate}
-use Rattle.bp.specs.Calls.{firstChild}
-use Rattle.bp.specs.Navigation.{handleAnswer, nodeAnswer}
-use Rattle.bp.proofs.Nodes.{then-open}
+use Rattle.family.specs.Family.{firstChild}
+use Rattle.search.specs.Handles.{handleAnswer, nodeAnswer}
+use Rattle.search.proofs.Nodes.{then-open}
 use Rattle.listing.specs.declared.seek.Start.{Start}
 use Rattle.listing.specs.Listing.{sought, making, begun, Starts}
 

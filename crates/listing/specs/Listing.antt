@@ -8,8 +8,9 @@ use lib.IntN.{ℤ}
 use denote.Ref.{RefT, now}
 use Rattle.row.specs.Answer.{Answer, at, nothing, refused, paperFound}
 use Rattle.row.specs.Gates.{through}
-use Rattle.bp.specs.Calls.{Searches, firstChild, lastChild, nextSibling, previousSibling}
-use Rattle.bp.specs.Navigation.{nodeAnswer}
+use Rattle.search.specs.Composed.{Searches}
+use Rattle.family.specs.Family.{firstChild, lastChild, nextSibling, previousSibling}
+use Rattle.search.specs.Handles.{nodeAnswer}
 use Rattle.listing.specs.declared.seek.Start.{Start}
 
 -- children starts at first_child, rev_children at last_child

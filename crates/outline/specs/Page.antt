@@ -8,9 +8,9 @@ use lib.Dec.{ltb}
 use lib.IntN.{ℤ, negsuc}
 use lib.ListN.{length, take}
 use Rattle.io.specs.Digits.{digits}
-use Rattle.bp.specs.Searches.{fwdAnswer}
-use Rattle.bp.specs.Calls.{parent}
-use Rattle.bp.specs.Navigation.{nodeAnswer}
+use Rattle.search.specs.Searches.{fwdAnswer}
+use Rattle.family.specs.Family.{parent}
+use Rattle.search.specs.Handles.{nodeAnswer}
 use Rattle.row.specs.Answer.{Answer, at, nothing, refused}
 
 -- where the page has room for it, the text stands behind its first a bytes, and r counts both

@@ -3,8 +3,9 @@
 ghost use mathlib.Core.Path.{_≡_};
 ghost use lib.ListN.{length};
 ghost use Rattle.row.specs.Gates.{rowGate, through};
-ghost use Rattle.bp.specs.Calls.{root, firstChild, isLeaf, parent, lastChild, nextSibling, previousSibling};
-ghost use Rattle.bp.specs.Navigation.{handleAnswer, nodeAnswer, ancestorAnswer};
+ghost use Rattle.family.specs.Family.{root, firstChild, isLeaf, parent, lastChild, nextSibling, previousSibling};
+ghost use Rattle.search.specs.Handles.{handleAnswer, nodeAnswer};
+ghost use Rattle.family.specs.Family.{ancestorAnswer};
 ghost use Rattle.wire.specs.Answer.{wireOf};
 
 // root(): 0, nothing on the empty row.

@@ -4,7 +4,7 @@ use Prim.Native.Nat.{_*_}
 use lib.IntN.{negsuc}
 use mir.Syntax.{w64}
 use mir.ValLaws.{toZ-ofZ}
-use Rattle.bp.specs.Searches.{fwdAnswer}
+use Rattle.search.specs.Searches.{fwdAnswer}
 use Rattle.wire.specs.Answer.{wireOf}
 use Rattle.wire.specs.Bytes.{wordAt, numberAt, wordsIn, numbersIn}
 use Rattle.capi.proofs.Passed.{lent, same}

@@ -3,9 +3,9 @@ use mathlib.Core.Path.{_≡_}
 use mathlib.Core.List.{[], _∷_, _++_}
 use lib.IntN.{negsuc}
 use lib.ListN.{length}
-use Rattle.bp.specs.Calls.{parent}
-use Rattle.bp.specs.Navigation.{nodeAnswer}
-use Rattle.bp.specs.Searches.{fwdAnswer}
+use Rattle.family.specs.Family.{parent}
+use Rattle.search.specs.Handles.{nodeAnswer}
+use Rattle.search.specs.Searches.{fwdAnswer}
 use Rattle.outline.specs.Page.{decimalOf, answerText, nodeLine}
 use Rattle.outline.proofs.Pages.{adds-then}
 use native.Mathlib.Omega.{arith}

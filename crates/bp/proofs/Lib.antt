@@ -1,6 +1,0 @@
-pub mod Answers
-pub mod Defined
-pub mod Nodes
-pub mod Moves
-pub mod Levels
-pub mod Rightmost

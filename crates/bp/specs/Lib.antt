@@ -1,3 +1,0 @@
-pub mod Searches
-pub mod Calls
-pub mod Navigation

@@ -1,0 +1,3 @@
+pub mod Searches
+pub mod Composed
+pub mod Handles
