@@ -9,7 +9,7 @@ use row::Refusal;
 use row::Told;
 
 // The place of the first newline, or the length where there is none.
-fn line_end(bytes: &[u8]) -> usize
+pub fn line_end(bytes: &[u8]) -> usize
     ensures { λ r. ⌜ Counts r (now (bytes .entry)) ⌝ }
     ensures { λ r. ⌜ r ≡ lineEnd (now (bytes .entry)) ⌝ }
 {

@@ -6,6 +6,7 @@ mod input;
 mod page;
 mod print;
 
+pub use input::line_end;
 use libc::STDOUT_FILENO;
 use row::Built;
 use row::Read;

@@ -18,7 +18,7 @@ fn of_word(w: u64) -> i64
 }
 
 // The 64 bits of a signed number.
-fn to_word(z: i64) -> u64
+pub fn to_word(z: i64) -> u64
     ensures { λ r. ⌜ r ≡ ofZ w64 z ⌝ }
 {
     if z < 0 {

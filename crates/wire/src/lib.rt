@@ -17,6 +17,7 @@ pub use answer::refused;
 pub use answer::told;
 pub use bytes::put;
 pub use bytes::put_number;
+pub use bytes::to_word;
 pub use limit::ANSWERS;
 pub use limit::NUMBERS;
 pub use limit::WORDS;

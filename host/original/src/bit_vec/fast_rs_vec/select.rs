@@ -1,0 +1,1 @@
+../../../../../docs/src/src/bit_vec/fast_rs_vec/select.rs
