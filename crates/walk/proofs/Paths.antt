@@ -1,20 +1,21 @@
 -- A climb and a descent as the code goes them: without the count of nodes examined, and by what a node that is asked says.
 --   climb-count, descend-count: the count makes no difference
 --   climbed-root, climbed-up, climbed-asked: one step up; rises-start, rises-on: up past the nodes that have nothing beyond them
---   down-first, down-second: down by one level; descended-leaf, descended-down: by none, or by one level and then the others
---   Fallen, down-there: the child that one level leads to
+--   down-first, down-second: down by one level; descended-leaf, descended-then: by none, or by a levels and then by b
+--   Reached, kept: what passes from a node to either child holds where a descent leads; Fallen, fallen: the node that a levels lead to
 --   Turned, turned: the node that a climb turns to; Landed, landed: the leaf that a descent reaches
 -- Assumes nothing.
 use mathlib.Core.Path.{_≡_, refl, sym, ap, _∙_}
 use mathlib.Core.Bool.{Bool, true, false, cond}
 use mathlib.Core.List.{List}
-use Prim.Native.Nat.{ℕ, zero, suc, _+_, _-_, _*_, _/_, _≤_, _<_}
+use Prim.Native.Nat.{ℕ, zero, suc, _+_, _-_, _*_, _/_, _<_}
+use native.Mathlib.Nat.{zero-add, add-zero, suc-add}
 use native.Mathlib.Omega.{arith}
 use borrow.Author.Tests.{eqb-false, leb-false}
 use lib.Dec.{leb, eqb}
 use lib.IntN.{ℤ}
-use Rattle.ints.specs.Sides.{size}
 use Rattle.row.specs.Way.{Way}
+use Rattle.stretch.specs.declared.numbers.Numbers.{Numbers}
 use Rattle.stretch.specs.Scan.{passed}
 use Rattle.mmt.specs.Nodes.{nodeAt}
 use Rattle.mmt.proofs.Places.{Place, place-up}
@@ -34,6 +35,15 @@ use Rattle.walk.proofs.Asked.{passed-size}
 alike : {A B C : Type 0} (f : A → C) (g : B → C) (t : Bool) {x y : A} {u v : B} → f x ≡ g u → f y ≡ g v → f (cond t x y) ≡ g (cond t u v)
 alike f g true p q = p
 alike f g false p q = q
+
+-- a claim of the node that a descent reaches, b levels above the leaves
+abbrev pub Reached : (ℕ → ℕ → ℤ → Type 0) → ℕ → Descended → Type 0
+Reached P b (Leaf j q) = P b j q
+Reached P b Lost = Unit {0}
+
+-- the node is there, and there is room for the levels left
+abbrev pub Fallen : ℕ → ℕ → Descended → Type 0
+Fallen m b d = Reached (λ g j q. (j < m) × Room g q) b d
 
 module _ (w : Way) (m : ℕ) (s : List ℤ) where
   -- ---- the count
@@ -121,54 +131,62 @@ module _ (w : Way) (m : ℕ) (s : List ℤ) where
         → bySecond q b ≡ descendedOf (descend w m s 1 k r 0)
     down-second q e f = rw (sym f) (down-first e)
 
-  -- ---- down by one level, and then by h
+  -- ---- down by a levels, and then by b
   abbrev pub onDown : ℕ → Descended → Descended
-  onDown h (Leaf j q) = descendedOf (descend w m s h j q 0)
-  onDown h Lost = Lost
+  onDown b (Leaf j q) = descendedOf (descend w m s b j q 0)
+  onDown b Lost = Lost
 
-  then-down : (h k : ℕ) (r : ℤ) → onDown h (descendedOf (descend w m s 1 k r 0)) ≡ descendedOf (descend w m s (suc h) k r 0)
+  then-down : (a b k : ℕ) (r : ℤ) (c : ℕ) → onDown b (descendedOf (descend w m s a k r c)) ≡ descendedOf (descend w m s (a + b) k r c)
   unfolding descend
-  then-down h k r =
-      let lower : Descent → Descended = (λ d. onDown h (descendedOf d)) in
+  then-down zero b k r c = rw (zero-add b) (descend-count b k r 0 c)
+  then-down (suc a) b k r c =
+      let lower : Descent → Descended = (λ d. onDown b (descendedOf d)) in
       let x = nodeAt s (nearer w k) in
       let y = nodeAt s (farther w k) in
       let q = passed w r (x .total) in
-      alike lower descendedOf (leb m (nearer w k)) refl
-      (alike lower descendedOf (fits x) (alike lower descendedOf (holdsOn w x r) (descend-count h (nearer w k) r 0 1)
+      rw (suc-add a b)
+      (alike lower descendedOf (leb m (nearer w k)) refl
+      (alike lower descendedOf (fits x) (alike lower descendedOf (holdsOn w x r) (then-down a b (nearer w k) r (suc c))
       (alike lower descendedOf (leb m (farther w k)) refl
-      (alike lower descendedOf (fits y) (alike lower descendedOf (holdsOn w y q) (descend-count h (farther w k) q 0 2) refl) refl))) refl)
-
-  pub descended-down : (h k : ℕ) (r : ℤ) → (h ≡ 0 → ⊥) → {b : Descended} → descendedOf (descend w m s 1 k r 0) ≡ b
-      → onDown (h - 1) b ≡ descendedOf (descend w m s h k r 0)
-  descended-down zero k r z e = absurd (z refl)
-  descended-down (suc h) k r z e = let d : suc h - 1 ≡ h = omega arith in rw (d, sym e) (then-down h k r)
+      (alike lower descendedOf (fits y) (alike lower descendedOf (holdsOn w y q) (then-down a b (farther w k) q (suc (suc c))) refl) refl))) refl))
 
   pub descended-leaf : (h k : ℕ) (r : ℤ) → h ≡ 0 → Leaf k r ≡ descendedOf (descend w m s h k r 0)
   descended-leaf h k r z = ap descendedOf (descend-leaf w m s h k r 0 z)
 
-  -- the child is there, and r moves by one total at most
-  abbrev pub Fallen : ℤ → Descended → Type 0
-  Fallen r (Leaf j q) = (j < m) × (size q ≤ size r + 4294967296)
-  Fallen r Lost = Unit {0}
+  -- ---- a claim of the levels left, the node and what is left of r, that passes from a node to either child
+  module _ (P : ℕ → ℕ → ℤ → Type 0)
+      (near : (h k : ℕ) (r : ℤ) → nearer w k < m → P (suc h) k r → P h (nearer w k) r)
+      (far : (h k : ℕ) (r : ℤ) (x : Numbers) → fits x ≡ true → farther w k < m → P (suc h) k r → P h (farther w k) (passed w r (x .total))) where
+    kept : (a b k : ℕ) (r : ℤ) (c : ℕ) → P (a + b) k r → Reached P b (descendedOf (descend w m s a k r c))
+    unfolding descend
+    kept zero b k r c p = rw (zero-add b) at p
+    kept (suc a) b k r c p =
+        let Q : Descent → Type 0 = (λ d. Reached P b (descendedOf d)) in
+        let i = nearer w k in
+        let j = farther w k in
+        let x = nodeAt s i in
+        let y = nodeAt s j in
+        let q = passed w r (x .total) in
+        let o : P (suc (a + b)) k r = rw (suc-add a b) at p in
+        chosen Q (leb m i) (λ u. tt)
+        (λ u. chosen Q (fits x)
+        (λ g. chosen Q (holdsOn w x r) (λ v. kept a b i r (suc c) (near (a + b) k r (leb-false m i u) o))
+        (λ v. chosen Q (leb m j) (λ e. tt)
+        (λ e. chosen Q (fits y)
+        (λ d. chosen Q (holdsOn w y q) (λ v. kept a b j q (suc (suc c)) (far (a + b) k r x g (leb-false m j e) o)) (λ v. tt))
+        (λ d. tt))))
+        (λ g. tt))
 
-  fallen : (k : ℕ) (r : ℤ) → Fallen r (descendedOf (descend w m s 1 k r 0))
-  unfolding descend
-  fallen k r =
-      let P : Descent → Type 0 = (λ d. Fallen r (descendedOf d)) in
-      let i = nearer w k in
-      let j = farther w k in
-      let x = nodeAt s i in
-      let y = nodeAt s j in
-      chosen P (leb m i) (λ a. tt)
-      (λ a. chosen P (fits x)
-      (λ g. chosen P (holdsOn w x r) (λ v. (leb-false m i a, omega arith))
-      (λ v. chosen P (leb m j) (λ e. tt)
-      (λ e. chosen P (fits y) (λ d. chosen P (holdsOn w y (passed w r (x .total))) (λ v. (leb-false m j e, passed-size w r x g)) (λ v. tt))
-      (λ d. tt))))
-      (λ g. tt))
+  -- ---- of h levels, a that lead to d, and the b that are left
+  module _ (a b h k : ℕ) (r : ℤ) (z : h ≡ a + b) {d : Descended} (e : descendedOf (descend w m s a k r 0) ≡ d) where
+    pub descended-then : onDown b d ≡ descendedOf (descend w m s h k r 0)
+    descended-then = rw (z, sym e) (then-down a b k r 0)
 
-  pub down-there : (k : ℕ) (r : ℤ) {b : Descended} → descendedOf (descend w m s 1 k r 0) ≡ b → Fallen r b
-  down-there k r e = rw (sym e) (fallen k r)
+    pub fallen : k < m → Room h r → Fallen m b d
+    fallen l o =
+        rw (sym e)
+        (kept (λ g j q. (j < m) × Room g q) (λ g j q u p. let v = p .1 in (u, omega arith))
+        (λ g j q x y u p. let v = p .1 in (u, omega (arith, passed-size w q x y))) a b k r 0 (l, rw z at o))
 
 -- ---- up past the nodes that have nothing beyond them
 module _ (w : Way) (k h : ℕ) where
@@ -192,8 +210,7 @@ Turned m t MisfitClimbed = Unit {0}
 
 -- the node is there, a leaf's, and there is room for its bits
 abbrev pub Landed : ℕ → ℕ → Descended → Type 0
-Landed m t (Leaf j q) = (j < m) × Place t 0 j × Room 0 q
-Landed m t Lost = Unit {0}
+Landed m t d = Reached (λ g j q. (j < m) × Place t g j × Room g q) 0 d
 
 module _ (w : Way) (m : ℕ) (s : List ℤ) (t : ℕ) where
   pub turned : (f h k : ℕ) (r : ℤ) (c : ℕ) → k < m → Place t h k → Room (h + 2 * k) r → Turned m t (climbedOf (climb w m s f h k r c))
@@ -214,20 +231,6 @@ module _ (w : Way) (m : ℕ) (s : List ℤ) (t : ℕ) where
       (λ g. tt))))
 
   pub landed : (h k : ℕ) (r : ℤ) (c : ℕ) → k < m → Place t h k → Room h r → Landed m t (descendedOf (descend w m s h k r c))
-  unfolding descend
-  landed zero k r c l p o = (l, p, o)
-  landed (suc h) k r c l p o =
-      let P : Descent → Type 0 = (λ d. Landed m t (descendedOf d)) in
-      let i = nearer w k in
-      let j = farther w k in
-      let x = nodeAt s i in
-      let y = nodeAt s j in
-      let q = passed w r (x .total) in
-      chosen P (leb m i) (λ a. tt)
-      (λ a. chosen P (fits x)
-      (λ g. chosen P (holdsOn w x r) (λ v. landed h i r (suc c) (leb-false m i a) (near-place t w h k p) (omega arith))
-      (λ v. chosen P (leb m j) (λ e. tt)
-      (λ e. chosen P (fits y)
-      (λ d. chosen P (holdsOn w y q) (λ v. landed h j q (suc (suc c)) (leb-false m j e) (far-place t w h k p) (omega (arith, passed-size w r x g))) (λ v. tt))
-      (λ d. tt))))
-      (λ g. tt))
+  landed h k r c l p o =
+      kept w m s (λ g j q. (j < m) × Place t g j × Room g q) (λ g j q u v. let n = v .2 in (u, near-place t w g j (v .1), omega arith))
+      (λ g j q x y u v. let n = v .2 in (u, far-place t w g j (v .1), omega (arith, passed-size w q x y))) h 0 k r c (rw (add-zero h) (l, p, o))

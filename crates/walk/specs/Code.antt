@@ -16,6 +16,8 @@ use Rattle.walk.specs.declared.ask.Asked.{Asked}
 use Rattle.walk.specs.declared.ask.Asked.the-variants.{Here, Past, Absent, Misfit as MisfitAsked}
 use Rattle.walk.specs.declared.path.Climbed.{Climbed}
 use Rattle.walk.specs.declared.path.Climbed.the-variants.{Turn, Out, Misfit as MisfitClimbed}
+use Rattle.walk.specs.declared.path.Risen.{Risen}
+use Rattle.walk.specs.declared.path.Risen.the-variants.{On, End}
 use Rattle.walk.specs.declared.path.Descended.{Descended}
 use Rattle.walk.specs.declared.path.Descended.the-variants.{Leaf, Lost}
 use Rattle.walk.specs.Walk.{fits, examine, Climb, turn, out, misfit, climb, Descent, leaf, lost}
@@ -38,6 +40,11 @@ abbrev pub descendedOf : Descent → Descended
 descendedOf (leaf k r c) = Leaf k r
 descendedOf lost = Lost
 
+-- a climb that has gone up past a sibling and goes on, or has ended
+abbrev pub climbedOn : Way → ℕ → List ℤ → Risen → Climbed
+climbedOn w m s (On j g q) = climbedOf (climb w m s j g j q 0)
+climbedOn w m s (End a) = a
+
 -- a climb goes on from node j, g levels above the leaves, as from node k, h above them, and needs no more room there
 pub record Rises (w : Way) (k h j g : ℕ) : Type 0 where
   pub under : j ≤ k
@@ -47,3 +54,8 @@ pub record Rises (w : Way) (k h j g : ℕ) : Type 0 where
 -- room in an i64 for c totals more, each of at most 2^32, and for the bits of a block
 abbrev pub Room : ℕ → ℤ → Type 0
 Room c r = size r + 4294967296 * (c + 2) < 9223372036854775808
+
+-- a climb that goes on does so from a node before k, and has room there
+abbrev pub Higher : ℕ → Risen → Type 0
+Higher k (On j g q) = (j < k) × Room (g + 2 * j) q
+Higher k (End a) = Unit {0}

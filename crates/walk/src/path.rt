@@ -13,6 +13,12 @@ pub enum Climbed {
     Misfit,
 }
 
+// A part of a climb: on from a node, so many levels above the leaves, with so much left of r; or at the climb's end.
+pub enum Risen {
+    On(usize, usize, i64),
+    End(Climbed),
+}
+
 // A descent: at the node reached, a leaf's where no level is left, with so much left of r.
 pub enum Descended {
     Leaf(usize, i64),

@@ -1,26 +1,24 @@
--- `walk::backward::climb_bwd` meets its contract: up to a node with a sibling beyond it, and on by what that one says. The measure is the node's
--- index.
+-- `walk::backward::climb_bwd` meets its contract: a climb goes on past one sibling as it does from the node it began at, twice. The measure is the
+-- node's index.
 -- Assumes nothing.
-use mathlib.Core.Path.{_≡_, refl, sym, _∙_}
+use mathlib.Core.Path.{_≡_, _∙_}
 use native.Mathlib.Omega.{arith}
 use borrow.Author.Needs.{needs}
 use mir.Syntax.{w64}
 use mir.Val.{toZ, ofZ}
 use mir.ValLaws.{toZ-ofZ}
 use Rattle.row.specs.Way.{backward}
-use Rattle.walk.specs.declared.ask.Asked.{Asked}
+use Rattle.walk.specs.declared.path.Risen.{Risen}
 use Rattle.walk.specs.Walk.{climb}
-use Rattle.walk.specs.Code.{askedOf, climbedOf}
-use Rattle.walk.proofs.Asked.{says, past-size}
-use Rattle.walk.proofs.Paths.{climbed-root, byBeside, climbed-asked}
-use Prim.Native.Nat.{ℕ, _-_, _<_}
+use Rattle.walk.specs.Code.{climbedOf, climbedOn, Higher}
+use Rattle.walk.proofs.Answers.{room-fits}
+use Prim.Native.Nat.{ℕ, _+_, _*_, _<_}
 use borrow.Fn.Kinds.{In}
 use borrow.Fn.PlainCycle.{Measures, is, falls, and}
 use Rattle.walk.proofs.backward.climb_bwd.Reads as climb-bwd
 use Rattle.walk.proofs.backward.climb_bwd.Kinds as climb-bwd-kinds
 use Rattle.walk.proofs.backward.+climb_bwd.Lts-climb_bwd as climb-bwd-lts
-use Rattle.walk.proofs.ask.ask_bwd.Reads as ask-bwd-reads
-use Rattle.walk.proofs.backward.right_above.Reads as right-above-reads
+use Rattle.walk.proofs.backward.up_bwd.Reads as up-bwd-reads
 use Rattle.walk.proofs.backward.+climb_bwd.{statement}
 use Rattle.walk.proofs.backward.+climb_bwd.Tie.{close}
 
@@ -36,111 +34,97 @@ climb-bwd-below t =
 
 -- what the calls ask and promise
 abbrev calls : ℕ → climb-bwd-lts.Claims
-calls t = (right-above-reads.Asked, right-above-reads.Learnt, ask-bwd-reads.Asked, ask-bwd-reads.Learnt, climb-bwd-below t, climb-bwd.Post)
+calls t = (up-bwd-reads.Asked, up-bwd-reads.Learnt, climb-bwd-below t, climb-bwd.Post)
 
--- what the sibling says, and what the climb answers by it
-asked : (t : ℕ) (n : climb-bwd-lts.After-ask-bwd (calls t) (climb-bwd-at t) climb-bwd.Post) {b : Asked} → n .ask-bwd .result ≡ b
-    → (let e = n .before .before in let a = e .before .args in
-    askedOf backward (a .all) (a .nodes .now) (e .right-above .result .node - 1) (a .r) ≡ b)
-asked t n e = sym (rw (toZ-ofZ w64 _ (n .before .before .before .fits .r)) at (n .ask-bwd .ensures)) ∙ e
-
-beside : (t : ℕ) (n : climb-bwd-lts.After-ask-bwd (calls t) (climb-bwd-at t) climb-bwd.Post) {b : Asked} → n .ask-bwd .result ≡ b
-    → (let e = n .before .before in let a = e .before .args in let p = e .right-above .result in
-    byBeside backward (a .all) (a .nodes .now) (p .height) (p .node) (a .r) b
-    ≡ climbedOf (climb backward (a .all) (a .nodes .now) (a .k) (a .h) (a .k) (a .r) 0))
-beside t n g =
-    let e = n .before .before in
-    let a = e .before .args in
-    let p = e .right-above .result in
-    let y = e .right-above .ensures in
-    let z = n .before .if1 .left in
-    climbed-asked backward (a .all) (a .nodes .now) (p .height) (p .node) (a .r) z (y .1 z) (asked t n g) ∙ y .0 .same (a .all) (a .nodes .now) (a .r)
+-- ---- past the first sibling
+up : (t : ℕ) (n : climb-bwd-lts.After-up-bwd (calls t) (climb-bwd-at t) climb-bwd.Post) {b : Risen} → n .up-bwd .result ≡ b
+    → (let a = n .before .args in
+    (climbedOn backward (a .all) (a .nodes .now) b ≡ climbedOf (climb backward (a .all) (a .nodes .now) (a .k) (a .h) (a .k) (a .r) 0))
+    × Higher (a .k) b)
+up t n e = rw (toZ-ofZ w64 _ (n .before .fits .r), e) at (n .up-bwd .ensures)
 
 left-back : (t : ℕ) (c : climb-bwd-lts.After-known-told (calls t) (climb-bwd-at t) climb-bwd.Post)
-    → toZ w64 (ofZ w64 (c .before .q .given .0 .0)) ≡ c .before .q .given .0 .0
-left-back t c = toZ-ofZ w64 _ (record { sfits = c .known-told .given .0 .1 })
-
-climb-bwd-right-above-requires : (t : ℕ) → climb-bwd-lts.Need-right-above-requires (calls t) (climb-bwd-at t) climb-bwd.Post
-climb-bwd-right-above-requires t c κs = omega arith
-
-climb-bwd-returns : (t : ℕ) → climb-bwd-lts.Need-returns (calls t) (climb-bwd-at t) climb-bwd.Post
-climb-bwd-returns t c =
+    → (let q = c .before .j .given .0 .1 .1 .0 in toZ w64 (ofZ w64 q) ≡ q)
+left-back t c =
     let e = c .before in
-    let a = e .before .args in
-    let p = e .right-above .result in
-    climbed-root backward (a .all) (a .nodes .now) (p .height) (p .node) (a .r) (c .if1 .taken)
-    ∙ e .right-above .ensures .0 .same (a .all) (a .nodes .now) (a .r)
+    let j = e .j .given .0 in
+    toZ-ofZ w64 _ (room-fits (j .1 .0 + 2 * j .0) (j .1 .1 .0) (up t (e .before .before) (e .j .given .1) .1 .1))
 
-climb-bwd-sub-ask-bwd : (t : ℕ) → climb-bwd-lts.Need-sub-ask-bwd (calls t) (climb-bwd-at t) climb-bwd.Post
-climb-bwd-sub-ask-bwd t c = let y = c .before .right-above .ensures .0 .under in omega arith
+-- ---- and past the second
+up-2 : (t : ℕ) (n : climb-bwd-lts.After-up-bwd2 (calls t) (climb-bwd-at t) climb-bwd.Post) {b : Risen} → n .up-bwd2 .result ≡ b
+    → (let e = n .before .before in let a = e .before .before .before .args in
+    (climbedOn backward (a .all) (a .nodes .now) b ≡ climbedOf (climb backward (a .all) (a .nodes .now) (a .k) (a .h) (a .k) (a .r) 0))
+    × Higher (e .j .given .0 .0) b)
+up-2 t n g =
+    let e = n .before .before in
+    let a = e .before .before .before .args in
+    let j = e .j .given .0 in
+    let y : climbedOn backward (a .all) (a .nodes .now) (n .up-bwd2 .result)
+    ≡ climbedOf (climb backward (a .all) (a .nodes .now) (j .0) (j .1 .0) (j .0) (toZ w64 (ofZ w64 (j .1 .1 .0))) 0) =
+    n .up-bwd2 .ensures .0 in
+    ((rw (left-back t (n .before), g) at y) ∙ up t (e .before .before) (e .j .given .1) .0, rw g at (n .up-bwd2 .ensures .1))
 
-climb-bwd-ask-bwd-requires : (t : ℕ) → climb-bwd-lts.Need-ask-bwd-requires (calls t) (climb-bwd-at t) climb-bwd.Post
-climb-bwd-ask-bwd-requires t c κs = rw (toZ-ofZ w64 _ (c .before .before .fits .r)) (omega arith)
+left-back-2 : (t : ℕ) (c : climb-bwd-lts.After-known-told2 (calls t) (climb-bwd-at t) climb-bwd.Post)
+    → (let q = c .before .i .given .0 .1 .1 .0 in toZ w64 (ofZ w64 q) ≡ q)
+left-back-2 t c =
+    let g = c .before in
+    let i = g .i .given .0 in
+    toZ-ofZ w64 _ (room-fits (i .1 .0 + 2 * i .0) (i .1 .1 .0) (up-2 t (g .before .before) (g .i .given .1) .1 .1))
 
-climb-bwd-enum-told : (t : ℕ) → climb-bwd-lts.Need-enum-told (calls t) (climb-bwd-at t) climb-bwd.Post
-climb-bwd-enum-told t c = search needs
+climb-bwd-up-bwd-requires : (t : ℕ) → climb-bwd-lts.Need-up-bwd-requires (calls t) (climb-bwd-at t) climb-bwd.Post
+climb-bwd-up-bwd-requires t c κs = rw (toZ-ofZ w64 _ (c .fits .r)) (omega arith)
 
-climb-bwd-sub-t14 : (t : ℕ) → climb-bwd-lts.Need-sub-t14 (calls t) (climb-bwd-at t) climb-bwd.Post
-climb-bwd-sub-t14 t c = let y = c .before .before .before .before .right-above .ensures .0 .under in omega arith
+climb-bwd-enum-known-j : (t : ℕ) → climb-bwd-lts.Need-enum-known-j (calls t) (climb-bwd-at t) climb-bwd.Post
+climb-bwd-enum-known-j t c = search needs
 
-climb-bwd-enum-known-q : (t : ℕ) → climb-bwd-lts.Need-enum-known-q (calls t) (climb-bwd-at t) climb-bwd.Post
-climb-bwd-enum-known-q t c = search needs
+climb-bwd-up-bwd-requires-2 : (t : ℕ) → climb-bwd-lts.Need-up-bwd-requires-2 (calls t) (climb-bwd-at t) climb-bwd.Post
+climb-bwd-up-bwd-requires-2 t c κs =
+    let e = c .before in
+    let y = up t (e .before .before) (e .j .given .1) .1 in
+    let l = y .0 in
+    let o = y .1 in
+    rw (left-back t c) (omega arith)
 
-climb-bwd-sub-climb-bwd : (t : ℕ) → climb-bwd-lts.Need-sub-climb-bwd (calls t) (climb-bwd-at t) climb-bwd.Post
-climb-bwd-sub-climb-bwd t c = search needs
-
-climb-bwd-add-climb-bwd : (t : ℕ) → climb-bwd-lts.Need-add-climb-bwd (calls t) (climb-bwd-at t) climb-bwd.Post
-climb-bwd-add-climb-bwd t c = let y = c .before .before .before .before .before .right-above .ensures .0 .room in omega arith
+climb-bwd-enum-known-i : (t : ℕ) → climb-bwd-lts.Need-enum-known-i (calls t) (climb-bwd-at t) climb-bwd.Post
+climb-bwd-enum-known-i t c = search needs
 
 climb-bwd-climb-bwd-requires : (t : ℕ) → climb-bwd-lts.Need-climb-bwd-requires (calls t) (climb-bwd-at t) climb-bwd.Post
 climb-bwd-climb-bwd-requires t c κs =
-    let n = c .before .before .before in
+    let g = c .before in
+    let n = g .before .before in
     let e = n .before .before in
-    let a = e .before .args in
-    let k = e .right-above .result .node - 1 in
-    let u = e .right-above .ensures .0 .under in
-    let v = e .right-above .ensures .0 .room in
-    let i = past-size backward (a .all) (a .nodes .now) k (a .r) (c .before .q .given .0 .0)
-    (says backward (a .all) (a .nodes .now) k (a .r) refl (asked t n (c .before .q .given .1))) in
-    rw (left-back t c) (omega arith)
+    let l = up t (e .before .before) (e .j .given .1) .1 .0 in
+    let y = up-2 t n (g .i .given .1) .1 in
+    let m = y .0 in
+    let o = y .1 in
+    rw (left-back-2 t c) (omega arith)
 
-climb-bwd-enum-told-2 : (t : ℕ) → climb-bwd-lts.Need-enum-told-2 (calls t) (climb-bwd-at t) climb-bwd.Post
-climb-bwd-enum-told-2 t c = search needs
+climb-bwd-enum-known-a : (t : ℕ) → climb-bwd-lts.Need-enum-known-a (calls t) (climb-bwd-at t) climb-bwd.Post
+climb-bwd-enum-known-a t c = search needs
 
-climb-bwd-enum-told-3 : (t : ℕ) → climb-bwd-lts.Need-enum-told-3 (calls t) (climb-bwd-at t) climb-bwd.Post
-climb-bwd-enum-told-3 t c = search needs
+climb-bwd-enum-known-a-2 : (t : ℕ) → climb-bwd-lts.Need-enum-known-a-2 (calls t) (climb-bwd-at t) climb-bwd.Post
+climb-bwd-enum-known-a-2 t c = search needs
+
+climb-bwd-returns : (t : ℕ) → climb-bwd-lts.Need-returns (calls t) (climb-bwd-at t) climb-bwd.Post
+climb-bwd-returns t c =
+    let g = c .before .before in
+    (rw (left-back-2 t (c .before)) at (c .climb-bwd .ensures)) ∙ up-2 t (g .before .before) (g .i .given .1) .0
 
 climb-bwd-returns-2 : (t : ℕ) → climb-bwd-lts.Need-returns-2 (calls t) (climb-bwd-at t) climb-bwd.Post
-climb-bwd-returns-2 t c =
-    let n = c .before .before in
-    rw (toZ-ofZ w64 _ (n .before .before .before .fits .r)) (beside t n (c .enum-told .given .1))
+climb-bwd-returns-2 t c = let g = c .before in up-2 t (g .before .before) (g .a .given .1) .0
 
 climb-bwd-returns-3 : (t : ℕ) → climb-bwd-lts.Need-returns-3 (calls t) (climb-bwd-at t) climb-bwd.Post
-climb-bwd-returns-3 t c =
-    let g = c .before .before in
-    (rw (left-back t (c .before)) at (c .climb-bwd .ensures)) ∙ beside t (g .before .before) (g .q .given .1)
-
-climb-bwd-returns-4 : (t : ℕ) → climb-bwd-lts.Need-returns-4 (calls t) (climb-bwd-at t) climb-bwd.Post
-climb-bwd-returns-4 t c = beside t (c .before .before) (c .enum-told2 .given .1)
-
-climb-bwd-returns-5 : (t : ℕ) → climb-bwd-lts.Need-returns-5 (calls t) (climb-bwd-at t) climb-bwd.Post
-climb-bwd-returns-5 t c = beside t (c .before .before) (c .enum-told3 .given .1)
+climb-bwd-returns-3 t c = let g = c .before in up t (g .before .before) (g .a2 .given .1) .0
 
 pub +climb-bwd-spec : {M : Type 1} → statement M
 +climb-bwd-spec = close μ-climb-bwd λ t. climb-bwd-lts.spec (calls t) (climb-bwd-at t) climb-bwd.Post
-    (climb-bwd-right-above-requires t)
-    (climb-bwd-returns t)
-    (climb-bwd-sub-ask-bwd t)
-    (climb-bwd-ask-bwd-requires t)
-    (climb-bwd-enum-told t)
-    (climb-bwd-sub-t14 t)
-    (climb-bwd-enum-known-q t)
-    (climb-bwd-sub-climb-bwd t)
-    (climb-bwd-add-climb-bwd t)
+    (climb-bwd-up-bwd-requires t)
+    (climb-bwd-enum-known-j t)
+    (climb-bwd-up-bwd-requires-2 t)
+    (climb-bwd-enum-known-i t)
     (climb-bwd-climb-bwd-requires t)
-    (climb-bwd-enum-told-2 t)
-    (climb-bwd-enum-told-3 t)
+    (climb-bwd-enum-known-a t)
+    (climb-bwd-enum-known-a-2 t)
+    (climb-bwd-returns t)
     (climb-bwd-returns-2 t)
     (climb-bwd-returns-3 t)
-    (climb-bwd-returns-4 t)
-    (climb-bwd-returns-5 t)

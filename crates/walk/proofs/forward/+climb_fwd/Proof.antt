@@ -1,26 +1,24 @@
--- `walk::forward::climb_fwd` meets its contract: up to a node with a sibling beyond it, and on by what that one says. The measure is the node's
--- index.
+-- `walk::forward::climb_fwd` meets its contract: a climb goes on past one sibling as it does from the node it began at, twice. The measure is the
+-- node's index.
 -- Assumes nothing.
-use mathlib.Core.Path.{_≡_, refl, sym, _∙_}
+use mathlib.Core.Path.{_≡_, _∙_}
 use native.Mathlib.Omega.{arith}
 use borrow.Author.Needs.{needs}
 use mir.Syntax.{w64}
 use mir.Val.{toZ, ofZ}
 use mir.ValLaws.{toZ-ofZ}
 use Rattle.row.specs.Way.{forward}
-use Rattle.walk.specs.declared.ask.Asked.{Asked}
+use Rattle.walk.specs.declared.path.Risen.{Risen}
 use Rattle.walk.specs.Walk.{climb}
-use Rattle.walk.specs.Code.{askedOf, climbedOf}
-use Rattle.walk.proofs.Asked.{says, past-size}
-use Rattle.walk.proofs.Paths.{climbed-root, byBeside, climbed-asked}
-use Prim.Native.Nat.{ℕ, _+_, _<_}
+use Rattle.walk.specs.Code.{climbedOf, climbedOn, Higher}
+use Rattle.walk.proofs.Answers.{room-fits}
+use Prim.Native.Nat.{ℕ, _+_, _*_, _<_}
 use borrow.Fn.Kinds.{In}
 use borrow.Fn.PlainCycle.{Measures, is, falls, and}
 use Rattle.walk.proofs.forward.climb_fwd.Reads as climb-fwd
 use Rattle.walk.proofs.forward.climb_fwd.Kinds as climb-fwd-kinds
 use Rattle.walk.proofs.forward.+climb_fwd.Lts-climb_fwd as climb-fwd-lts
-use Rattle.walk.proofs.ask.ask_fwd.Reads as ask-fwd-reads
-use Rattle.walk.proofs.forward.left_above.Reads as left-above-reads
+use Rattle.walk.proofs.forward.up_fwd.Reads as up-fwd-reads
 use Rattle.walk.proofs.forward.+climb_fwd.{statement}
 use Rattle.walk.proofs.forward.+climb_fwd.Tie.{close}
 
@@ -36,111 +34,97 @@ climb-fwd-below t =
 
 -- what the calls ask and promise
 abbrev calls : ℕ → climb-fwd-lts.Claims
-calls t = (left-above-reads.Asked, left-above-reads.Learnt, ask-fwd-reads.Asked, ask-fwd-reads.Learnt, climb-fwd-below t, climb-fwd.Post)
+calls t = (up-fwd-reads.Asked, up-fwd-reads.Learnt, climb-fwd-below t, climb-fwd.Post)
 
--- what the sibling says, and what the climb answers by it
-asked : (t : ℕ) (n : climb-fwd-lts.After-ask-fwd (calls t) (climb-fwd-at t) climb-fwd.Post) {b : Asked} → n .ask-fwd .result ≡ b
-    → (let e = n .before .before in let a = e .before .args in
-    askedOf forward (a .all) (a .nodes .now) (e .left-above .result .node + 1) (a .r) ≡ b)
-asked t n e = sym (rw (toZ-ofZ w64 _ (n .before .before .before .fits .r)) at (n .ask-fwd .ensures)) ∙ e
-
-beside : (t : ℕ) (n : climb-fwd-lts.After-ask-fwd (calls t) (climb-fwd-at t) climb-fwd.Post) {b : Asked} → n .ask-fwd .result ≡ b
-    → (let e = n .before .before in let a = e .before .args in let p = e .left-above .result in
-    byBeside forward (a .all) (a .nodes .now) (p .height) (p .node) (a .r) b
-    ≡ climbedOf (climb forward (a .all) (a .nodes .now) (a .k) (a .h) (a .k) (a .r) 0))
-beside t n g =
-    let e = n .before .before in
-    let a = e .before .args in
-    let p = e .left-above .result in
-    let y = e .left-above .ensures in
-    let z = n .before .if1 .left in
-    climbed-asked forward (a .all) (a .nodes .now) (p .height) (p .node) (a .r) z (y .1 z) (asked t n g) ∙ y .0 .same (a .all) (a .nodes .now) (a .r)
+-- ---- past the first sibling
+up : (t : ℕ) (n : climb-fwd-lts.After-up-fwd (calls t) (climb-fwd-at t) climb-fwd.Post) {b : Risen} → n .up-fwd .result ≡ b
+    → (let a = n .before .args in
+    (climbedOn forward (a .all) (a .nodes .now) b ≡ climbedOf (climb forward (a .all) (a .nodes .now) (a .k) (a .h) (a .k) (a .r) 0))
+    × Higher (a .k) b)
+up t n e = rw (toZ-ofZ w64 _ (n .before .fits .r), e) at (n .up-fwd .ensures)
 
 left-back : (t : ℕ) (c : climb-fwd-lts.After-known-told (calls t) (climb-fwd-at t) climb-fwd.Post)
-    → toZ w64 (ofZ w64 (c .before .q .given .0 .0)) ≡ c .before .q .given .0 .0
-left-back t c = toZ-ofZ w64 _ (record { sfits = c .known-told .given .0 .1 })
-
-climb-fwd-left-above-requires : (t : ℕ) → climb-fwd-lts.Need-left-above-requires (calls t) (climb-fwd-at t) climb-fwd.Post
-climb-fwd-left-above-requires t c κs = omega arith
-
-climb-fwd-returns : (t : ℕ) → climb-fwd-lts.Need-returns (calls t) (climb-fwd-at t) climb-fwd.Post
-climb-fwd-returns t c =
+    → (let q = c .before .j .given .0 .1 .1 .0 in toZ w64 (ofZ w64 q) ≡ q)
+left-back t c =
     let e = c .before in
-    let a = e .before .args in
-    let p = e .left-above .result in
-    climbed-root forward (a .all) (a .nodes .now) (p .height) (p .node) (a .r) (c .if1 .taken)
-    ∙ e .left-above .ensures .0 .same (a .all) (a .nodes .now) (a .r)
+    let j = e .j .given .0 in
+    toZ-ofZ w64 _ (room-fits (j .1 .0 + 2 * j .0) (j .1 .1 .0) (up t (e .before .before) (e .j .given .1) .1 .1))
 
-climb-fwd-add-ask-fwd : (t : ℕ) → climb-fwd-lts.Need-add-ask-fwd (calls t) (climb-fwd-at t) climb-fwd.Post
-climb-fwd-add-ask-fwd t c = let y = c .before .left-above .ensures .0 .under in omega arith
+-- ---- and past the second
+up-2 : (t : ℕ) (n : climb-fwd-lts.After-up-fwd2 (calls t) (climb-fwd-at t) climb-fwd.Post) {b : Risen} → n .up-fwd2 .result ≡ b
+    → (let e = n .before .before in let a = e .before .before .before .args in
+    (climbedOn forward (a .all) (a .nodes .now) b ≡ climbedOf (climb forward (a .all) (a .nodes .now) (a .k) (a .h) (a .k) (a .r) 0))
+    × Higher (e .j .given .0 .0) b)
+up-2 t n g =
+    let e = n .before .before in
+    let a = e .before .before .before .args in
+    let j = e .j .given .0 in
+    let y : climbedOn forward (a .all) (a .nodes .now) (n .up-fwd2 .result)
+    ≡ climbedOf (climb forward (a .all) (a .nodes .now) (j .0) (j .1 .0) (j .0) (toZ w64 (ofZ w64 (j .1 .1 .0))) 0) =
+    n .up-fwd2 .ensures .0 in
+    ((rw (left-back t (n .before), g) at y) ∙ up t (e .before .before) (e .j .given .1) .0, rw g at (n .up-fwd2 .ensures .1))
 
-climb-fwd-ask-fwd-requires : (t : ℕ) → climb-fwd-lts.Need-ask-fwd-requires (calls t) (climb-fwd-at t) climb-fwd.Post
-climb-fwd-ask-fwd-requires t c κs = rw (toZ-ofZ w64 _ (c .before .before .fits .r)) (omega arith)
+left-back-2 : (t : ℕ) (c : climb-fwd-lts.After-known-told2 (calls t) (climb-fwd-at t) climb-fwd.Post)
+    → (let q = c .before .i .given .0 .1 .1 .0 in toZ w64 (ofZ w64 q) ≡ q)
+left-back-2 t c =
+    let g = c .before in
+    let i = g .i .given .0 in
+    toZ-ofZ w64 _ (room-fits (i .1 .0 + 2 * i .0) (i .1 .1 .0) (up-2 t (g .before .before) (g .i .given .1) .1 .1))
 
-climb-fwd-enum-told : (t : ℕ) → climb-fwd-lts.Need-enum-told (calls t) (climb-fwd-at t) climb-fwd.Post
-climb-fwd-enum-told t c = search needs
+climb-fwd-up-fwd-requires : (t : ℕ) → climb-fwd-lts.Need-up-fwd-requires (calls t) (climb-fwd-at t) climb-fwd.Post
+climb-fwd-up-fwd-requires t c κs = rw (toZ-ofZ w64 _ (c .fits .r)) (omega arith)
 
-climb-fwd-add-t14 : (t : ℕ) → climb-fwd-lts.Need-add-t14 (calls t) (climb-fwd-at t) climb-fwd.Post
-climb-fwd-add-t14 t c = let y = c .before .before .before .before .left-above .ensures .0 .under in omega arith
+climb-fwd-enum-known-j : (t : ℕ) → climb-fwd-lts.Need-enum-known-j (calls t) (climb-fwd-at t) climb-fwd.Post
+climb-fwd-enum-known-j t c = search needs
 
-climb-fwd-enum-known-q : (t : ℕ) → climb-fwd-lts.Need-enum-known-q (calls t) (climb-fwd-at t) climb-fwd.Post
-climb-fwd-enum-known-q t c = search needs
+climb-fwd-up-fwd-requires-2 : (t : ℕ) → climb-fwd-lts.Need-up-fwd-requires-2 (calls t) (climb-fwd-at t) climb-fwd.Post
+climb-fwd-up-fwd-requires-2 t c κs =
+    let e = c .before in
+    let y = up t (e .before .before) (e .j .given .1) .1 in
+    let l = y .0 in
+    let o = y .1 in
+    rw (left-back t c) (omega arith)
 
-climb-fwd-sub-climb-fwd : (t : ℕ) → climb-fwd-lts.Need-sub-climb-fwd (calls t) (climb-fwd-at t) climb-fwd.Post
-climb-fwd-sub-climb-fwd t c = search needs
-
-climb-fwd-add-climb-fwd : (t : ℕ) → climb-fwd-lts.Need-add-climb-fwd (calls t) (climb-fwd-at t) climb-fwd.Post
-climb-fwd-add-climb-fwd t c = let y = c .before .before .before .before .before .left-above .ensures .0 .room in omega arith
+climb-fwd-enum-known-i : (t : ℕ) → climb-fwd-lts.Need-enum-known-i (calls t) (climb-fwd-at t) climb-fwd.Post
+climb-fwd-enum-known-i t c = search needs
 
 climb-fwd-climb-fwd-requires : (t : ℕ) → climb-fwd-lts.Need-climb-fwd-requires (calls t) (climb-fwd-at t) climb-fwd.Post
 climb-fwd-climb-fwd-requires t c κs =
-    let n = c .before .before .before in
+    let g = c .before in
+    let n = g .before .before in
     let e = n .before .before in
-    let a = e .before .args in
-    let k = e .left-above .result .node + 1 in
-    let u = e .left-above .ensures .0 .under in
-    let v = e .left-above .ensures .0 .room in
-    let i = past-size forward (a .all) (a .nodes .now) k (a .r) (c .before .q .given .0 .0)
-    (says forward (a .all) (a .nodes .now) k (a .r) refl (asked t n (c .before .q .given .1))) in
-    rw (left-back t c) (omega arith)
+    let l = up t (e .before .before) (e .j .given .1) .1 .0 in
+    let y = up-2 t n (g .i .given .1) .1 in
+    let m = y .0 in
+    let o = y .1 in
+    rw (left-back-2 t c) (omega arith)
 
-climb-fwd-enum-told-2 : (t : ℕ) → climb-fwd-lts.Need-enum-told-2 (calls t) (climb-fwd-at t) climb-fwd.Post
-climb-fwd-enum-told-2 t c = search needs
+climb-fwd-enum-known-a : (t : ℕ) → climb-fwd-lts.Need-enum-known-a (calls t) (climb-fwd-at t) climb-fwd.Post
+climb-fwd-enum-known-a t c = search needs
 
-climb-fwd-enum-told-3 : (t : ℕ) → climb-fwd-lts.Need-enum-told-3 (calls t) (climb-fwd-at t) climb-fwd.Post
-climb-fwd-enum-told-3 t c = search needs
+climb-fwd-enum-known-a-2 : (t : ℕ) → climb-fwd-lts.Need-enum-known-a-2 (calls t) (climb-fwd-at t) climb-fwd.Post
+climb-fwd-enum-known-a-2 t c = search needs
+
+climb-fwd-returns : (t : ℕ) → climb-fwd-lts.Need-returns (calls t) (climb-fwd-at t) climb-fwd.Post
+climb-fwd-returns t c =
+    let g = c .before .before in
+    (rw (left-back-2 t (c .before)) at (c .climb-fwd .ensures)) ∙ up-2 t (g .before .before) (g .i .given .1) .0
 
 climb-fwd-returns-2 : (t : ℕ) → climb-fwd-lts.Need-returns-2 (calls t) (climb-fwd-at t) climb-fwd.Post
-climb-fwd-returns-2 t c =
-    let n = c .before .before in
-    rw (toZ-ofZ w64 _ (n .before .before .before .fits .r)) (beside t n (c .enum-told .given .1))
+climb-fwd-returns-2 t c = let g = c .before in up-2 t (g .before .before) (g .a .given .1) .0
 
 climb-fwd-returns-3 : (t : ℕ) → climb-fwd-lts.Need-returns-3 (calls t) (climb-fwd-at t) climb-fwd.Post
-climb-fwd-returns-3 t c =
-    let g = c .before .before in
-    (rw (left-back t (c .before)) at (c .climb-fwd .ensures)) ∙ beside t (g .before .before) (g .q .given .1)
-
-climb-fwd-returns-4 : (t : ℕ) → climb-fwd-lts.Need-returns-4 (calls t) (climb-fwd-at t) climb-fwd.Post
-climb-fwd-returns-4 t c = beside t (c .before .before) (c .enum-told2 .given .1)
-
-climb-fwd-returns-5 : (t : ℕ) → climb-fwd-lts.Need-returns-5 (calls t) (climb-fwd-at t) climb-fwd.Post
-climb-fwd-returns-5 t c = beside t (c .before .before) (c .enum-told3 .given .1)
+climb-fwd-returns-3 t c = let g = c .before in up t (g .before .before) (g .a2 .given .1) .0
 
 pub +climb-fwd-spec : {M : Type 1} → statement M
 +climb-fwd-spec = close μ-climb-fwd λ t. climb-fwd-lts.spec (calls t) (climb-fwd-at t) climb-fwd.Post
-    (climb-fwd-left-above-requires t)
-    (climb-fwd-returns t)
-    (climb-fwd-add-ask-fwd t)
-    (climb-fwd-ask-fwd-requires t)
-    (climb-fwd-enum-told t)
-    (climb-fwd-add-t14 t)
-    (climb-fwd-enum-known-q t)
-    (climb-fwd-sub-climb-fwd t)
-    (climb-fwd-add-climb-fwd t)
+    (climb-fwd-up-fwd-requires t)
+    (climb-fwd-enum-known-j t)
+    (climb-fwd-up-fwd-requires-2 t)
+    (climb-fwd-enum-known-i t)
     (climb-fwd-climb-fwd-requires t)
-    (climb-fwd-enum-told-2 t)
-    (climb-fwd-enum-told-3 t)
+    (climb-fwd-enum-known-a t)
+    (climb-fwd-enum-known-a-2 t)
+    (climb-fwd-returns t)
     (climb-fwd-returns-2 t)
     (climb-fwd-returns-3 t)
-    (climb-fwd-returns-4 t)
-    (climb-fwd-returns-5 t)
