@@ -3,12 +3,12 @@
 --   Within: in the row, with fewer than f handles left beyond it on the listing's way
 --   start-on, next-on: of the calls that a listing goes by
 --   sought-within, after-within: of what is held first, and of what is held after a handle
---   sought-below, after-below: so it lies in the row
+--   sought-below, after-below: so it lies in the row; below-small: so it is small
 -- Assumes nothing.
 use mathlib.Core.Path.{_≡_, refl}
 use mathlib.Core.Bool.{Bool, true, false, cond, _&&_}
 use mathlib.Core.List.{List}
-use Prim.Native.Nat.{ℕ, _+_, _-_, _<_}
+use Prim.Native.Nat.{ℕ, _+_, _-_, _≤_, _<_}
 use native.Mathlib.Omega.{arith}
 use borrow.Author.Tests.{ltb-true}
 use lib.Dec.{ltb, eqb}
@@ -26,6 +26,7 @@ use Rattle.search.specs.Composed.{Searches, walked, onward, handleAt, closeOf, 
 use Rattle.family.specs.Family.{firstChild, lastChild, nextSibling, previousSibling}
 use Rattle.search.specs.Handles.{nodeAnswer}
 use Rattle.search.proofs.Nodes.{passed-fine, passed-handle, handle-inside}
+use Rattle.wire.specs.Answer.{Small}
 use Rattle.listing.specs.Listing.{startCall, nextCall, sought, after}
 use Rattle.listing.specs.Whole.{Below}
 use Rattle.listing.proofs.Sought.{tests}
@@ -129,3 +130,8 @@ module _ (rising : Bool) (ws : List ℕ) (n : ℕ) (s : List ℤ) (B : ℕ) wher
   after-below (at v) = below (left rising n v) (after rising ws n s B (at v)) (after-within v)
   after-below nothing = tt
   after-below (refused k) = tt
+
+pub below-small : (n : ℕ) (a : Answer) → n ≤ 4294967296 → Below n a → Small a
+below-small n (at v) l b = omega arith
+below-small n nothing l b = tt
+below-small n (refused k) l b = tt

@@ -15,14 +15,15 @@ use lib.IntN.{ℤ}
 use lib.ListN.{length, take, drop, set, length-set, take-append-drop, length-map}
 use lib.Seq.{length-take-le, take-suc-set, drop-drop, drop-set-lt}
 use Rattle.row.specs.Answer.{Answer, at, nothing, refused}
+use Rattle.wire.specs.Answer.{wireOf}
 use Rattle.listing.specs.Listing.{sought, after}
-use Rattle.listing.specs.Whole.{asNumber, isNothing, answers, Wrote, countOf, leftOf}
+use Rattle.listing.specs.Whole.{isNothing, answers, Wrote, countOf, leftOf}
 use Rattle.listing.proofs.Sought.{Unrefused}
 
 module _ (next : Answer → Answer) where
   -- the answers as numbers
   abbrev numbers : ℕ → Answer → List ℤ
-  numbers c a = map asNumber (answers next c a)
+  numbers c a = map wireOf (answers next c a)
 
   pub answers-more : (c : ℕ) (h : Answer) → isNothing h ≡ false → answers next (suc c) h ≡ h ∷ answers next c (next h)
   unfolding answers
@@ -55,7 +56,7 @@ module _ (next : Answer → Answer) where
     written out i r f b =
         let n : i ≡ length all = sym (length-take-le i out r) ∙ ap length f in
         record {
-          count = n ∙ length-map (answers next (length out₀) a) asNumber;
+          count = n ∙ length-map (answers next (length out₀) a) wireOf;
           left = sym (take-append-drop i out) ∙ rw (f, b, n);
         }
 
@@ -78,24 +79,24 @@ module _ (next : Answer → Answer) where
         in-out = let s = w .same in omega arith
 
         -- the front, one number longer
-        longer : (l : List ℤ) → take (i + 1) (set out i (asNumber h)) ++ l ≡ take i out ++ asNumber h ∷ l
-        longer l = rw (add-one, take-suc-set out i (asNumber h) in-out) (append-assoc (take i out) (asNumber h ∷ []) l)
+        longer : (l : List ℤ) → take (i + 1) (set out i (wireOf h)) ++ l ≡ take i out ++ wireOf h ∷ l
+        longer l = rw (add-one, take-suc-set out i (wireOf h) in-out) (append-assoc (take i out) (wireOf h ∷ []) l)
 
-        past : drop (i + 1) (set out i (asNumber h)) ≡ drop (i + 1) out₀
-        past = drop-set-lt (i + 1) out i (asNumber h) (omega arith) ∙ sym (drop-drop 1 i out) ∙ ap (drop 1) (w .back) ∙ drop-drop 1 i out₀
+        past : drop (i + 1) (set out i (wireOf h)) ≡ drop (i + 1) out₀
+        past = drop-set-lt (i + 1) out i (wireOf h) (omega arith) ∙ sym (drop-drop 1 i out) ∙ ap (drop 1) (w .back) ∙ drop-drop 1 i out₀
 
-        pub writing-step : isNothing h ≡ false → Writing (set out i (asNumber h)) (next h) (i + 1)
+        pub writing-step : isNothing h ≡ false → Writing (set out i (wireOf h)) (next h) (i + 1)
         writing-step e = record {
           room = omega arith;
-          same = length-set out i (asNumber h) ∙ w .same;
+          same = length-set out i (wireOf h) ∙ w .same;
           front = longer (numbers left (next h)) ∙ rw (more, answers-more left h e) at (w .front);
           back = past;
         }
 
-        pub written-ended : isNothing h ≡ true → Wrote next a out₀ (set out i (asNumber h)) (i + 1)
+        pub written-ended : isNothing h ≡ true → Wrote next a out₀ (set out i (wireOf h)) (i + 1)
         written-ended e =
-            let r : i + 1 ≤ length (set out i (asNumber h)) = rw (length-set out i (asNumber h)) (omega (arith, in-out)) in
-            written (set out i (asNumber h)) (i + 1) r (sym (append-nil _) ∙ longer [] ∙ rw (more, answers-last left h e) at (w .front)) past
+            let r : i + 1 ≤ length (set out i (wireOf h)) = rw (length-set out i (wireOf h)) (omega (arith, in-out)) in
+            written (set out i (wireOf h)) (i + 1) r (sym (append-nil _) ∙ longer [] ∙ rw (more, answers-last left h e) at (w .front)) past
 
 -- ---- the call
 module _ (rising : Bool) (ws : List ℕ) (n : ℕ) (s : List ℤ) (B v : ℕ) (out : List ℤ) where

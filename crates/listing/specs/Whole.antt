@@ -4,18 +4,13 @@ use mathlib.Core.Path.{_≡_}
 use mathlib.Core.Bool.{Bool, true, false}
 use mathlib.Core.List.{List, [], _∷_, _++_, map}
 use Prim.Native.Nat.{ℕ, zero, suc, _<_}
-use lib.IntN.{ℤ, pos, negsuc}
+use lib.IntN.{ℤ}
 use lib.ListN.{length, drop}
 use Rattle.row.specs.Answer.{Answer, at, nothing, refused, numberOf}
+use Rattle.wire.specs.Answer.{wireOf}
 use Rattle.listing.specs.declared.whole.Listed.{Listed}
 use Rattle.listing.specs.declared.whole.Listed.the-variants.{Count, Refused}
 use Rattle.listing.specs.Listing.{sought, after}
-
--- as the C functions number an answer: the position; -1 for nothing; -1 less the number for a refusal
-abbrev pub asNumber : Answer → ℤ
-asNumber (at v) = pos v
-asNumber nothing = negsuc 0
-asNumber (refused k) = negsuc k
 
 -- the answer is nothing
 abbrev pub isNothing : Answer → Bool
@@ -47,7 +42,7 @@ overlaid l s = l ++ drop (length l) s
 -- what the steps answer from a on, as numbers, is written to the slice s, which is then t: i answers in all
 pub record Wrote (next : Answer → Answer) (a : Answer) (s t : List ℤ) (i : ℕ) : Type 0 where
   pub count : i ≡ length (answers next (length s) a)
-  pub left : t ≡ overlaid (map asNumber (answers next (length s) a)) s
+  pub left : t ≡ overlaid (map wireOf (answers next (length s) a)) s
 
 -- a value where no refusal was met, another where one was
 abbrev pub unlessRefused : {A : Type 0} → Answer → A → (ℕ → A) → A
@@ -66,7 +61,7 @@ countOf rising ws n s B v c = unlessRefused (sought rising ws n s B v) (at (leng
 -- what is then in the lent slice: the answers in their order, followed by what stood past them; a refused making leaves all
 unfoldable pub leftOf : Bool → List ℕ → ℕ → List ℤ → ℕ → ℕ → List ℤ → List ℤ
 leftOf rising ws n s B v out =
-    unlessRefused (sought rising ws n s B v) (overlaid (map asNumber (answersOf rising ws n s B v (length out))) out) (λ _. out)
+    unlessRefused (sought rising ws n s B v) (overlaid (map wireOf (answersOf rising ws n s B v (length out))) out) (λ _. out)
 
 -- the count or the refusal, on paper
 abbrev pub paperListed : Listed → Answer

@@ -7,7 +7,7 @@ ghost use Prim.Native.Nat.{_≤_};
 ghost use lib.ListN.{length};
 ghost use Rattle.row.specs.Answer.{paperFound};
 ghost use Rattle.listing.specs.Listing.{sought, after, Starts};
-ghost use Rattle.listing.specs.Whole.{Below, asNumber, isNothing, Wrote, countOf, leftOf, paperListed};
+ghost use Rattle.listing.specs.Whole.{Below, isNothing, Wrote, countOf, leftOf, paperListed};
 use crate::seek;
 use crate::seek::Start;
 use row::Found;
@@ -17,18 +17,6 @@ use row::Refusal;
 pub enum Listed {
     Count(usize),
     Refused(Refusal),
-}
-
-// The position; -1 for nothing; -1 less the number for a refusal.
-fn as_number(found: Found) -> i64
-    requires { ⌜ Below 4294967296 (paperFound found) ⌝ }
-    ensures { λ r. ⌜ r ≡ asNumber (paperFound found) ⌝ }
-{
-    match found {
-        Found::At(v) => v as i64,
-        Found::Nothing => -1,
-        Found::Refused(k) => -1 - (row::number(k) as i64),
-    }
 }
 
 fn is_nothing(found: Found) -> bool
@@ -68,7 +56,7 @@ fn write_steps(
     let mut held = first;
     let mut i = 0;
     while i < out.len() {
-        out[i] = as_number(held);
+        out[i] = wire::found(held);
         i += 1;
         if is_nothing(held) {
             return i;

@@ -7,11 +7,12 @@ use borrow.Author.Needs.{needs}
 use lib.ListN.{length, length-set}
 use mir.Syntax.{w64}
 use mir.Val.{toZ, ofZ}
+use mir.ValLaws.{toZ-ofZ}
 use Rattle.row.specs.Answer.{paperFound}
+use Rattle.wire.specs.Answer.{wireOf}
 use Rattle.listing.specs.Listing.{after}
-use Rattle.listing.specs.Whole.{Below, asNumber}
-use Rattle.listing.proofs.Below.{after-below}
-use Rattle.listing.proofs.Numbers.{below-more, number-back}
+use Rattle.listing.specs.Whole.{Below}
+use Rattle.listing.proofs.Below.{after-below, below-small}
 use Rattle.listing.proofs.Written.{Writing, writing-start, writing-step, written-full, written-ended}
 use Rattle.listing.proofs.whole.write_steps.Statement.{statement}
 use Rattle.listing.proofs.whole.write_steps.Tie as tie
@@ -26,17 +27,14 @@ abbrev μ-loop : tie.MeasureT-loop
 loop-holds : tie.Need-loop-holds Inv-loop μ-loop
 loop-holds c = (c .before .pre .1, writing-start _ _ _)
 
--- the position that is held, and the number that is written
-small : (c : tie.In-loop Inv-loop μ-loop) → Below 4294967296 (paperFound (c .before .loop .held))
-small c =
+-- the number that is written
+number : (c : tie.After-found Inv-loop μ-loop) → toZ w64 (ofZ w64 (c .found .result)) ≡ wireOf (paperFound (c .before .before .loop .held))
+number c = toZ-ofZ w64 (c .found .result) (record { sfits = c .found .ok }) ∙ c .found .ensures
+
+found-requires : tie.Need-found-requires Inv-loop μ-loop
+found-requires c κs =
     let s = c .before .before .before in
-    below-more (s .args .n) 4294967296 (paperFound (c .before .loop .held)) (s .pre .0) (c .before .loop .inv .0)
-
-number : (c : tie.After-as-number Inv-loop μ-loop) → toZ w64 (ofZ w64 (c .as-number .result)) ≡ asNumber (paperFound (c .before .before .loop .held))
-number c = number-back (c .before .before .loop .held) (c .as-number .result) (small (c .before)) (c .as-number .ensures)
-
-as-number-requires : tie.Need-as-number-requires Inv-loop μ-loop
-as-number-requires c κs = small c
+    below-small (s .args .n) (paperFound (c .before .loop .held)) (s .pre .0) (c .before .loop .inv .0)
 
 mul-t10 : tie.Need-mul-t10 Inv-loop μ-loop
 mul-t10 c = search needs
@@ -88,7 +86,7 @@ write-steps-spec =
     Inv-loop
     μ-loop
     loop-holds
-    as-number-requires
+    found-requires
     mul-t10
     slice-set-from-out
     add-i

@@ -1,0 +1,80 @@
+-- `probe::listings::list` meets its contract: what it decodes is listed. Assumes nothing.
+use mathlib.Core.Path.{refl, ap, _∙_}
+use Prim.Native.Nat.{_*_, _/_}
+use borrow.Author.Needs.{needs}
+use lib.ListN.{length}
+use mir.Syntax.{w64}
+use mir.ValLaws.{toZ-ofZ}
+use Rattle.listing.specs.Whole.{countOf}
+use Rattle.wire.specs.Answer.{wireOf}
+use Rattle.wire.specs.Bytes.{wordAt, numberAt, wordsIn, numbersIn}
+use Rattle.wire.proofs.Lent.{lent, same}
+use Rattle.probe.specs.Listings.{listedBytes}
+use Rattle.probe.proofs.listings.list.Statement.{statement}
+use Rattle.probe.proofs.listings.list.Tie as tie
+
+slice-aggregate-take-words : tie.Need-slice-aggregate-take-words
+slice-aggregate-take-words c = search needs
+
+take-words-requires : tie.Need-take-words-requires
+take-words-requires c κs = search needs
+
+slice-aggregate-take-numbers : tie.Need-slice-aggregate-take-numbers
+slice-aggregate-take-numbers c = search needs
+
+take-numbers-requires : tie.Need-take-numbers-requires
+take-numbers-requires c κs = search needs
+
+array-share-prefix-words : tie.Need-array-share-prefix-words
+array-share-prefix-words c = search needs
+
+slice-aggregate-list-decoded : tie.Need-slice-aggregate-list-decoded
+slice-aggregate-list-decoded c =
+    let t = c .before .before .before .before .before in
+    let s = t .before .before .before .before .before .args .row .now in
+    lent (λ j. wordAt s (8 * j)) _ _ (t .take-words .ensures .1)
+
+array-share-prefix-numbers : tie.Need-array-share-prefix-numbers
+array-share-prefix-numbers c = search needs
+
+slice-aggregate-list-decoded-2 : tie.Need-slice-aggregate-list-decoded-2
+slice-aggregate-list-decoded-2 c =
+    let t = c .before .before .before in
+    let s = t .before .before .before .before .before .before .before .before .args .nodes .now in
+    lent (λ j. numberAt s (8 * j)) _ _ (t .take-numbers .ensures .1)
+
+list-decoded-requires : tie.Need-list-decoded-requires
+list-decoded-requires c κs = search needs
+
+same-length : tie.Need-same-length
+same-length c = search needs
+
+returns : tie.Need-returns
+returns c =
+    let t = c .before .before .before .before .before .before .before in
+    let w = t .before .before .before in
+    let a = w .before .before .before .before .before .args in
+    let l = c .before .before .list-decoded in
+    let o = a .out .now in
+    let p = w .take-words .ensures .1 ∙ ap (wordsIn (a .row .now)) (w .take-words .ensures .0) in
+    let q = t .take-numbers .ensures .1 ∙ ap (numbersIn (a .nodes .now)) (t .take-numbers .ensures .0) in (
+      toZ-ofZ w64 _ (record { sfits = l .ok }) ∙ l .ensures .0
+          ∙ same (λ ws n s. wireOf (countOf (a .rising) ws n s (a .block) (a .node) (length o / 8))) p refl q,
+      l .ensures .1 ∙ same (λ ws n s. listedBytes (a .rising) ws n s (a .block) (a .node) (length o / 8) o) p refl q,
+    )
+
+pub list-spec : {M : Type 1} → statement M
+list-spec =
+    tie.close
+    (tie.spec
+    slice-aggregate-take-words
+    take-words-requires
+    slice-aggregate-take-numbers
+    take-numbers-requires
+    array-share-prefix-words
+    slice-aggregate-list-decoded
+    array-share-prefix-numbers
+    slice-aggregate-list-decoded-2
+    list-decoded-requires
+    same-length
+    returns)

@@ -1,0 +1,67 @@
+-- `probe::word_listings::list` meets its contract: it is the one call, and its count or its refusal crosses. Assumes nothing.
+use mathlib.Core.Path.{_≡_, sym, ap, _∙_}
+use Prim.Native.Nat.{_<_}
+use native.Mathlib.Omega.{arith}
+use borrow.Author.Needs.{needs}
+use mir.Syntax.{w64}
+use mir.ValLaws.{toZ-ofZ, toZ-pos}
+use Rattle.row.specs.Answer.{at}
+use Rattle.listing.specs.Whole.{paperListed}
+use Rattle.wire.specs.Answer.{wireOf}
+use Rattle.probe.proofs.Listed.{count-low}
+use Rattle.probe.proofs.word_listings.list.Statement.{statement}
+use Rattle.probe.proofs.word_listings.list.Tie as tie
+
+-- what is counted
+counted : (c : tie.After-known-told) → at (c .before .c .given .0 .0) ≡ paperListed (c .before .before .before .before .list .result)
+counted c = sym (ap paperListed (c .before .c .given .1))
+
+low : (c : tie.After-known-told) → c .before .c .given .0 .0 < 4294967299
+low c = count-low _ _ _ _ _ _ _ _ (counted c ∙ c .before .before .before .before .list .ensures .0)
+
+list-requires : tie.Need-list-requires
+list-requires c κs = search needs
+
+enum-known-c : tie.Need-enum-known-c
+enum-known-c c = search needs
+
+cast-result : tie.Need-cast-result
+cast-result c = let l = low c in record { sfits = omega arith }
+
+enum-known-k : tie.Need-enum-known-k
+enum-known-k c = search needs
+
+refused-requires : tie.Need-refused-requires
+refused-requires c κs = search needs
+
+same-length : tie.Need-same-length
+same-length c = search needs
+
+returns : tie.Need-returns
+returns c =
+    let l = low c in
+    let e = c .before .before .before .before .list .ensures in
+    (toZ-pos w64 _ (omega arith) ∙ ap wireOf (counted c ∙ e .0), e .1)
+
+same-length-2 : tie.Need-same-length-2
+same-length-2 c = search needs
+
+returns-2 : tie.Need-returns-2
+returns-2 c =
+    let e = c .before .before .before .before .before .list .ensures in
+    let k = sym (ap paperListed (c .before .before .k .given .1)) ∙ e .0 in
+    (toZ-ofZ w64 _ (record { sfits = c .refused .ok }) ∙ c .refused .ensures ∙ ap wireOf k, e .1)
+
+pub list-spec : {M : Type 1} → statement M
+list-spec =
+    tie.close
+    (tie.spec
+    list-requires
+    enum-known-c
+    cast-result
+    enum-known-k
+    refused-requires
+    same-length
+    returns
+    same-length-2
+    returns-2)
