@@ -1,7 +1,6 @@
 -- What the calls over decoded words and numbers answer.
 --   may-small, search-small: a position that is answered is below 2^32
 --   built-open, built-shut: what a build says of its tests; bytes-open, bytes-shut: what it leaves
---   lent, lent-few, same: what is decoded is what the promise names
 -- Assumes nothing.
 use mathlib.Core.Path.{_≡_, refl, sym, ap, _∙_}
 use mathlib.Core.List.{List, [], _∷_}
@@ -9,7 +8,7 @@ use Prim.Native.Nat.{ℕ, _*_, _≤_}
 use native.Mathlib.Omega.{arith}
 use lib.IntN.{ℤ}
 use lib.ListN.{length, take, drop}
-use lib.Seq.{length-take-le, take-at}
+use lib.Seq.{take-at}
 use Rattle.row.specs.declared.gate.Gate.{Gate}
 use Rattle.row.specs.declared.gate.Gate.the-variants.{Open, Shut}
 use Rattle.row.specs.Answer.{Answer, at, nothing, refused}
@@ -25,8 +24,7 @@ use Rattle.search.specs.Searches.{searchAnswer}
 use Rattle.demands.specs.First.{May}
 use Rattle.demands.proofs.Walked.{walk-may}
 use Rattle.wire.specs.Answer.{Small}
-use Rattle.wire.specs.Bytes.{made, numbersOver}
-use Rattle.wire.proofs.Runs.{length-made}
+use Rattle.wire.specs.Bytes.{numbersOver}
 use Rattle.capi.specs.Calls.{leftBytes}
 
 -- ---- positions
@@ -78,15 +76,3 @@ module _ (ws : List ℕ) (n B t : ℕ) (bytes : List ℕ) where
       let h : nodesGate (length ws) n (length s) B ≡ Open = ap (λ x. nodesGate (length ws) n x B) l ∙ g in
       let q : take c z ≡ written ws n B = ap (λ x. take x z) f ∙ ap (take (width * count n B)) e ∙ front s h in
       ap (λ x. numbersOver x bytes) q ∙ bytes-passed g
-
--- ---- what is decoded
--- as much is lent on as was decoded
-pub lent : {A : Type 0} (g : ℕ → A) (l : List A) (c : ℕ) → take c l ≡ made g 0 c → c ≡ length (take c l)
-lent g l c e = sym (ap length e ∙ length-made g 0 c)
-
-pub same : {A B C D : Type 0} (f : A → B → C → D) {a x : A} {b y : B} {c z : C} → a ≡ x → b ≡ y → c ≡ z → f a b c ≡ f x y z
-same f {a = a} {x = x} {b = b} {y = y} {c = c} p q r = ap (λ v. f v b c) p ∙ ap (λ v. f x v c) q ∙ ap (λ v. f x y v) r
-
--- as many numbers are lent as the promise names
-pub lent-few : {A B : Type 0} (z : List A) (c m : ℕ) (g : ℕ → B) → c ≤ length z → c ≡ m → length (take c z) ≡ length (made g 0 m)
-lent-few z c m g h e = length-take-le c z h ∙ e ∙ sym (length-made g 0 m)

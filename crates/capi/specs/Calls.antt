@@ -11,16 +11,9 @@ use Rattle.mmt.specs.Nodes.{written}
 use Rattle.search.specs.Searches.{fwdAnswer, bwdAnswer, outward}
 use Rattle.family.specs.Family.{ancestorAnswer}
 use Rattle.wire.specs.Answer.{wireOf}
-use Rattle.wire.specs.Limit.{wordRoom, numberRoom, wireBits, fit}
-use Rattle.wire.specs.Bytes.{wordsIn, numbersIn, numbersOver}
-
--- the words of a row's bytes, at most 64
-abbrev pub rowWords : List ℕ → List ℕ
-rowWords row = wordsIn row (fit (length row) wordRoom)
-
--- the node numbers of bytes, at most 3,069
-abbrev pub nodeNumbers : List ℕ → List ℤ
-nodeNumbers nodes = numbersIn nodes (fit (length nodes) numberRoom)
+use Rattle.wire.specs.Limit.{wireBits}
+use Rattle.wire.specs.Bytes.{numbersOver}
+use Rattle.wire.specs.Lent.{rowWords, nodeNumbers}
 
 -- the bytes s after a build with room for t numbers: those of the numbers that document 01 gives, followed by what stood past them; a
 -- refusal leaves all

@@ -10,7 +10,7 @@ use Rattle.listing.specs.Whole.{unlessRefused, answersOf, countOf}
 use Rattle.wire.specs.Answer.{wireOf}
 use Rattle.wire.specs.Limit.{wireBits}
 use Rattle.wire.specs.Bytes.{numbersOver}
-use Rattle.wire.specs.Decoded.{rowWords, nodeNumbers}
+use Rattle.wire.specs.Lent.{rowWords, nodeNumbers}
 
 -- the bytes out after a listing with room for c answers: theirs, in order, followed by what stood past them; a refused making leaves all
 unfoldable pub listedBytes : Bool → List ℕ → ℕ → List ℤ → ℕ → ℕ → ℕ → List ℕ → List ℕ

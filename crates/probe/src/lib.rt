@@ -1,8 +1,12 @@
-// The calls that differential runs make, for other languages: `bpw_` over words and numbers, for rows of any size; `bp_` over
-// byte slices, for rows of up to 4,096 bits.
+// The calls that differential runs make, for other languages: `bp_` over byte slices, for rows of up to 4,096 bits, and `bpw_`
+// over words and numbers, for rows of any size.
 //
 // Each tests what it is lent: nothing has a `requires`. The answer is one i64.
-mod listings;
+mod byte_level;
+mod byte_listings;
+mod byte_node;
+mod byte_search;
+mod byte_test;
 mod word_level;
 mod word_listings;
 mod word_node;

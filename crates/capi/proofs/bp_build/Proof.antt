@@ -12,7 +12,7 @@ use Rattle.mmt.specs.Layout.{nodesGate}
 use Rattle.wire.specs.Answer.{wireOf}
 use Rattle.wire.specs.Bytes.{wordAt, numberAt, wordsIn}
 use Rattle.capi.specs.Calls.{leftBytes}
-use Rattle.capi.proofs.Passed.{lent, lent-few, same}
+use Rattle.wire.proofs.Lent.{lent, lent-few, same}
 use borrow.Author.Needs.{needs}
 use Rattle.capi.proofs.bp_build.Statement.{statement}
 use Rattle.capi.proofs.bp_build.Tie as tie

@@ -7,7 +7,7 @@ use mir.ValLaws.{toZ-ofZ}
 use Rattle.search.specs.Searches.{fwdAnswer}
 use Rattle.wire.specs.Answer.{wireOf}
 use Rattle.wire.specs.Bytes.{wordAt, numberAt, wordsIn, numbersIn}
-use Rattle.capi.proofs.Passed.{lent, same}
+use Rattle.wire.proofs.Lent.{lent, same}
 use borrow.Author.Needs.{needs}
 use Rattle.capi.proofs.bp_close.Statement.{statement}
 use Rattle.capi.proofs.bp_close.Tie as tie

@@ -6,7 +6,7 @@ use mir.ValLaws.{toZ-ofZ}
 use Rattle.family.specs.Family.{ancestorAnswer}
 use Rattle.wire.specs.Answer.{wireOf}
 use Rattle.wire.specs.Bytes.{wordAt, numberAt, wordsIn, numbersIn}
-use Rattle.capi.proofs.Passed.{lent, same}
+use Rattle.wire.proofs.Lent.{lent, same}
 use borrow.Author.Needs.{needs}
 use Rattle.capi.proofs.bp_is_ancestor.Statement.{statement}
 use Rattle.capi.proofs.bp_is_ancestor.Tie as tie

@@ -2,7 +2,7 @@
 use mathlib.Core.List.{[]}
 use borrow.Author.Needs.{needs}
 use Rattle.demands.specs.Questions.{firstChild}
-use Rattle.probe.proofs.Small.{answer-small, small-as, crossed}
+use Rattle.asking.proofs.Small.{answer-small, small-as, crossed}
 use Rattle.probe.proofs.word_node.bpw_first_child.Statement.{statement}
 use Rattle.probe.proofs.word_node.bpw_first_child.Tie as tie
 

@@ -2,7 +2,7 @@
 use mathlib.Core.List.{[]}
 use borrow.Author.Needs.{needs}
 use Rattle.demands.specs.Questions.{root}
-use Rattle.probe.proofs.Small.{answer-small, small-as, crossed}
+use Rattle.asking.proofs.Small.{answer-small, small-as, crossed}
 use Rattle.probe.proofs.word_node.bpw_root.Statement.{statement}
 use Rattle.probe.proofs.word_node.bpw_root.Tie as tie
 

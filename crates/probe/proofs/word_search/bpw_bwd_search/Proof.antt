@@ -3,7 +3,7 @@ use borrow.Author.Needs.{needs}
 use Rattle.demands.specs.Questions.{bwdSearch}
 use mir.Syntax.{w64}
 use mir.ValLaws.{toZ-ofZ}
-use Rattle.probe.proofs.Small.{answer-small, small-as, crossed}
+use Rattle.asking.proofs.Small.{answer-small, small-as, crossed}
 use Rattle.probe.proofs.word_search.bpw_bwd_search.Statement.{statement}
 use Rattle.probe.proofs.word_search.bpw_bwd_search.Tie as tie
 

@@ -13,8 +13,8 @@ use Rattle.wire.specs.Answer.{wireOf}
 use Rattle.wire.specs.Bytes.{numbersOver}
 use Rattle.probe.specs.Listings.{listedBytes}
 use Rattle.probe.proofs.Listed.{count-low, bytes-shut, bytes-open}
-use Rattle.probe.proofs.listings.put_listing.Statement.{statement}
-use Rattle.probe.proofs.listings.put_listing.Tie as tie
+use Rattle.probe.proofs.byte_listings.put_listing.Statement.{statement}
+use Rattle.probe.proofs.byte_listings.put_listing.Tie as tie
 
 -- what is counted
 counted : (c : tie.After-c) → at (c .c .given .0 .0) ≡ paperListed (c .before .before .before .list .result)

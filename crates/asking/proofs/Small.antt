@@ -2,7 +2,7 @@
 --   may-small, below-small: a value below a bound that is at most 2^32
 --   ordered-small: beyond 2^32 bits there is only a refusal, 1 or 2
 --   answer-small: each call; read-small: the text reader
---   small-as, crossed: what a call answers, handed to `wire`, and what comes back
+--   small-as, crossed: what a call answers, handed to `wire`, and what comes back; answered: as what was asked
 -- Assumes nothing.
 use mathlib.Core.Path.{_≡_, refl, ap, sym, _∙_}
 use mathlib.Core.Bool.{Bool, true, false, true≢false}
@@ -85,3 +85,7 @@ small-as e h = rw e h
 
 pub crossed : {z : ℤ} {a b : Answer} → SFits w64 z → z ≡ wireOf a → a ≡ b → toZ w64 (ofZ w64 z) ≡ wireOf b
 crossed {z} f e g = toZ-ofZ w64 z f ∙ e ∙ ap wireOf g
+
+pub answered : {Q : Type 0} (f : Q → Answer) {q p : Q} {z : ℤ} {a : Answer}
+    → q ≡ p → SFits w64 z → z ≡ wireOf a → a ≡ f p → toZ w64 (ofZ w64 z) ≡ wireOf (f q)
+answered f e s h g = crossed s h (g ∙ sym (ap f e))

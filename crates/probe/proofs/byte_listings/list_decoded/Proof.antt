@@ -8,8 +8,8 @@ use mir.Syntax.{w64}
 use mir.ValLaws.{toZ-ofZ}
 use Rattle.wire.specs.Answer.{wireOf}
 use Rattle.probe.proofs.Listed.{count-cut, bytes-cut}
-use Rattle.probe.proofs.listings.list_decoded.Statement.{statement}
-use Rattle.probe.proofs.listings.list_decoded.Tie as tie
+use Rattle.probe.proofs.byte_listings.list_decoded.Statement.{statement}
+use Rattle.probe.proofs.byte_listings.list_decoded.Tie as tie
 
 -- the answers that fit into out fit into the array
 fits : (c : tie.After-fitting) → c .fitting .result ≤ 4098

@@ -10,8 +10,8 @@ use Rattle.wire.specs.Answer.{wireOf}
 use Rattle.wire.specs.Bytes.{wordAt, numberAt, wordsIn, numbersIn}
 use Rattle.wire.proofs.Lent.{lent, same}
 use Rattle.probe.specs.Listings.{listedBytes}
-use Rattle.probe.proofs.listings.list.Statement.{statement}
-use Rattle.probe.proofs.listings.list.Tie as tie
+use Rattle.probe.proofs.byte_listings.list.Statement.{statement}
+use Rattle.probe.proofs.byte_listings.list.Tie as tie
 
 slice-aggregate-take-words : tie.Need-slice-aggregate-take-words
 slice-aggregate-take-words c = search needs

@@ -1,4 +1,4 @@
--- What a call over bytes is lent: the words and the numbers that bytes hold, as many as a row of 4,096 bits can need.
+-- What bytes that cross hold: the words of a row and the numbers of its nodes, as many as there is room for.
 -- Assumes nothing.
 use mathlib.Core.List.{List}
 use Prim.Native.Nat.{ℕ}
