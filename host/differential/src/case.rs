@@ -1,0 +1,156 @@
+use std::hint::black_box;
+
+use crate::known::Known;
+use crate::ours;
+use crate::plain::{self, Lent, MOST_BYTES, MOST_WORDS};
+use crate::theirs::{original_over, Original};
+use crate::{Answer, Call, Rng, Row, Tally, BLOCKS};
+
+/// What the calls are lent: words, a bit count, nodes and a block size, right or wrong.
+pub struct Case {
+    /// The words of the row.
+    pub words: Vec<u64>,
+    /// The bit count.
+    pub bits: u64,
+    /// The node numbers.
+    pub nodes: Vec<i64>,
+    /// The block size.
+    pub block: u64,
+    /// The words and the nodes as bytes, with up to seven more that do not count.
+    bytes: (Vec<u8>, Vec<u8>),
+    /// Copies of all that is lent, to compare with after each call.
+    copies: Copies,
+    /// The row, where refusals 2 and 3 are passed.
+    row: Option<Row>,
+    /// The refusal that calls over the nodes answer whatever they are asked.
+    standing: Result<(), u8>,
+    as_built: bool,
+    /// The original's trees over the row: of the words as lent, and of the row alone.
+    originals: Option<[Box<dyn Original>; 2]>,
+}
+
+struct Copies {
+    words: Vec<u64>,
+    nodes: Vec<i64>,
+    bytes: (Vec<u8>, Vec<u8>),
+}
+
+/// Making a case, and what is so of it.
+impl Case {
+    /// A case of any content.
+    pub fn new(words: Vec<u64>, bits: u64, nodes: Vec<i64>, block: u64, rng: &mut Rng) -> Self {
+        let lent = Lent { words: &words, bits, nodes: &nodes, block, most: MOST_WORDS };
+        let standing = lent.admit();
+        let as_built = standing.is_ok() && lent.as_built();
+        let row = lent.admit_row().map(|()| Row::of_words(&words, bits as usize)).ok();
+        let originals = row.as_ref().map(|row| {
+            // with Rust's checks the original does not take surplus words
+            let lent = if cfg!(debug_assertions) { &row.words } else { &words };
+            let block = if BLOCKS.contains(&block) { block } else { BLOCKS[0] };
+            [lent, &row.words].map(|words| original_over(words, row.bits, block))
+        });
+        let bytes = (ours::bytes_of(&words, u64::to_le_bytes, rng), ours::bytes_of(&nodes, i64::to_le_bytes, rng));
+        let copies = Copies { words: words.clone(), nodes: nodes.clone(), bytes: bytes.clone() };
+        Case { words, bits, nodes, block, bytes, copies, row, standing, as_built, originals }
+    }
+
+    /// A row with its nodes as built, surplus words and bits past its end.
+    pub fn built(row: &Row, block: u64, rng: &mut Rng) -> Self {
+        let words = row.with_surplus(rng);
+        let mut nodes = Lent { words: &words, bits: row.bits as u64, nodes: &[], block, most: MOST_WORDS }.build();
+        nodes.extend((0..rng.below(4)).map(|_| rng.any() as i64));
+        Case::new(words, row.bits as u64, nodes, block, rng)
+    }
+
+    /// The row, unless there are too many bits or too few words.
+    pub fn row(&self) -> Option<&Row> {
+        self.row.as_ref()
+    }
+
+    /// The refusal, of those numbered 1 to 4, that calls over the nodes answer whatever they are asked.
+    pub fn standing(&self) -> Result<(), u8> {
+        self.standing
+    }
+
+    /// Whether the nodes are those that a build writes for the row.
+    pub fn is_as_built(&self) -> bool {
+        self.as_built
+    }
+
+    /// Whether v is a handle of the row.
+    pub fn is_handle(&self, v: u64) -> bool {
+        self.row().is_some_and(|row| v < self.bits && row.opens(v as usize))
+    }
+
+    /// The first handle from a position on, within a word or so; the position itself if there is none.
+    pub fn handle_from(&self, at: u64) -> u64 {
+        (at..at.saturating_add(64)).find(|&v| self.is_handle(v)).unwrap_or(at)
+    }
+}
+
+/// Asking and comparing.
+impl Case {
+    /// Asks a call every way and compares: panics at a difference that is not known.
+    pub fn check(&self, call: Call, tally: &mut Tally) {
+        let plain = plain::ask(self.lent(MOST_WORDS), call);
+        let ours = ours::over_words(&self.words, self.bits, &self.nodes, self.block, call);
+        self.same("over words", call, &ours, "the second implementation", &plain);
+        self.check_original(call, &ours, tally);
+
+        let ours = ours::over_bytes(&self.bytes.0, self.bits, &self.bytes.1, self.block, call);
+        let plain = if self.bits <= MOST_BYTES { plain } else { plain::ask(self.lent(MOST_BYTES), call) };
+        self.same("over bytes", call, &ours, "the second implementation", &plain);
+
+        self.unchanged(call);
+        tally.count(&plain, !self.as_built);
+    }
+
+    /// Holds an answer against the original's, unless the question falls under a known difference.
+    fn check_original(&self, call: Call, ours: &Answer, tally: &mut Tally) {
+        let known = Known::of(self, call);
+        if let Some(known) = known {
+            tally.known[known as usize] += 1;
+        }
+        let Some([of_lent, of_row]) = &self.originals else { return };
+        let asked = match known {
+            None => of_lent,
+            Some(Known::Surplus) => of_row,
+            Some(_) => return,
+        };
+        if call.takes_nodes() && !BLOCKS.contains(&self.block) {
+            return;
+        }
+        if let Some(theirs) = asked.ask(call) {
+            tally.original += 1;
+            self.same("over words", call, ours, "the original", &theirs);
+        }
+    }
+
+    fn lent(&self, most: u64) -> Lent<'_> {
+        Lent { words: &self.words, bits: self.bits, nodes: &self.nodes, block: self.block, most }
+    }
+
+    fn same(&self, way: &str, call: Call, ours: &Answer, other: &str, theirs: &Answer) {
+        if ours != theirs {
+            self.differs(&format!("{call:?} {way} answers {ours}, but {other} answers {theirs}"));
+        }
+    }
+
+    /// What was lent has to be as it was.
+    fn unchanged(&self, call: Call) {
+        let copies = black_box(&self.copies);
+        if self.words != copies.words || self.nodes != copies.nodes || self.bytes != copies.bytes {
+            self.differs(&format!("{call:?} changed what it was lent"));
+        }
+    }
+
+    #[cold]
+    fn differs(&self, what: &str) -> ! {
+        let row = match self.row() {
+            Some(row) if self.bits <= 2000 => row.text(),
+            _ => format!("{:x?}", self.words),
+        };
+        let nodes = if self.as_built { "as built".to_owned() } else { format!("{:?}", self.nodes) };
+        panic!("{what}\n  bits {}, block {}\n  row {row}\n  nodes {nodes}", self.bits, self.block)
+    }
+}

@@ -1,0 +1,71 @@
+use std::iter::FusedIterator;
+
+use crate::{Refusal, Tree};
+
+/// The children of a node, one at a time.
+///
+/// Over nodes as built every item is `Ok`. Over others a refusal may be met in seeking the next child: it is the last item.
+#[derive(Clone, Debug)]
+pub struct Children<'t, 'a> {
+    tree: &'t Tree<'a>,
+    rising: bool,
+    /// What the next step answers.
+    held: Result<Option<usize>, Refusal>,
+}
+
+impl<'t, 'a> Children<'t, 'a> {
+    pub(crate) fn rising(tree: &'t Tree<'a>, node: usize) -> Result<Self, Refusal> {
+        let first = tree.first_child(node)?;
+        Ok(Children { tree, rising: true, held: Ok(first) })
+    }
+
+    pub(crate) fn falling(tree: &'t Tree<'a>, node: usize) -> Result<Self, Refusal> {
+        let last = tree.last_child(node)?;
+        Ok(Children { tree, rising: false, held: Ok(last) })
+    }
+
+    #[inline]
+    fn after(&self, child: usize) -> Result<Option<usize>, Refusal> {
+        if self.rising {
+            self.tree.next_sibling(child)
+        } else {
+            self.tree.previous_sibling(child)
+        }
+    }
+}
+
+impl Iterator for Children<'_, '_> {
+    type Item = Result<usize, Refusal>;
+
+    #[inline]
+    fn next(&mut self) -> Option<Self::Item> {
+        let answer = self.held.transpose()?;
+        self.held = match answer {
+            Ok(child) => self.after(child),
+            Err(_) => Ok(None),
+        };
+        Some(answer)
+    }
+}
+
+impl FusedIterator for Children<'_, '_> {}
+
+#[cfg(test)]
+mod tests {
+    use super::*;
+
+    /// A node's total that is not the row's leads back to a position that does not open. The listing answers it, is refused
+    /// there, and has ended.
+    #[test]
+    fn a_refusal_met_on_the_way_is_the_last_item() {
+        let built: Tree = "((((())))((()()())))".parse().unwrap();
+        let built = Tree::build(built.words(), built.bits(), 8).unwrap();
+        let mut nodes = built.nodes().to_vec();
+        nodes[3 * 4] += 3;
+        let tree = Tree::from_parts(built.words(), built.bits(), nodes, 8).unwrap();
+        let mut children = tree.rev_children(9).unwrap();
+        assert_eq!(children.next(), Some(Ok(5)));
+        assert_eq!(children.next(), Some(Err(Refusal::NotAHandle)));
+        assert_eq!((children.next(), children.next()), (None, None));
+    }
+}

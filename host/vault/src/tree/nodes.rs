@@ -1,0 +1,92 @@
+use super::{ask, place, Tree, TESTED};
+use crate::{words, Children, Refusal};
+
+/// Calls on nodes.
+impl<'a> Tree<'a> {
+    /// The handle 0, unless there are no bits.
+    #[inline]
+    pub fn root(&self) -> Option<usize> {
+        place(words::root(&self.words, self.bits as u64)).expect(TESTED)
+    }
+
+    /// The node that encloses a node.
+    #[inline]
+    pub fn parent(&self, node: usize) -> Result<Option<usize>, Refusal> {
+        place(ask!(self.parent(node as u64)))
+    }
+
+    /// The first child of a node.
+    #[inline]
+    pub fn first_child(&self, node: usize) -> Result<Option<usize>, Refusal> {
+        place(words::first_child(&self.words, self.bits as u64, node as u64))
+    }
+
+    /// The last child of a node.
+    #[inline]
+    pub fn last_child(&self, node: usize) -> Result<Option<usize>, Refusal> {
+        place(ask!(self.last_child(node as u64)))
+    }
+
+    /// The next child of a node's parent.
+    #[inline]
+    pub fn next_sibling(&self, node: usize) -> Result<Option<usize>, Refusal> {
+        place(ask!(self.next_sibling(node as u64)))
+    }
+
+    /// The child of a node's parent before it.
+    #[inline]
+    pub fn previous_sibling(&self, node: usize) -> Result<Option<usize>, Refusal> {
+        place(ask!(self.previous_sibling(node as u64)))
+    }
+
+    /// Whether a node has no children.
+    #[inline]
+    pub fn is_leaf(&self, node: usize) -> Result<bool, Refusal> {
+        words::is_leaf(&self.words, self.bits as u64, node as u64)
+    }
+
+    /// Whether `ancestor` encloses `descendant` or is it; nothing where `ancestor` never closes.
+    ///
+    /// ```
+    /// use vault::Tree;
+    ///
+    /// let tree: Tree = "(()(()))".parse()?;
+    /// assert_eq!(tree.is_ancestor(3, 4), Ok(Some(true)));
+    /// assert_eq!(tree.is_ancestor(3, 3), Ok(Some(true)));
+    /// assert_eq!(tree.is_ancestor(1, 3), Ok(Some(false)));
+    /// assert_eq!("((".parse::<Tree>()?.is_ancestor(0, 1), Ok(None));
+    /// # Ok::<(), vault::Refusal>(())
+    /// ```
+    #[inline]
+    pub fn is_ancestor(&self, ancestor: usize, descendant: usize) -> Result<Option<bool>, Refusal> {
+        ask!(self.is_ancestor(ancestor as u64, descendant as u64))
+    }
+
+    /// The children of a node, from the first to the last.
+    ///
+    /// ```
+    /// use vault::{Refusal, Tree};
+    ///
+    /// let tree: Tree = "(()(()))".parse()?;
+    /// assert_eq!(tree.children(0)?.collect::<Result<Vec<_>, _>>(), Ok(vec![1, 3]));
+    /// assert_eq!(tree.children(1)?.count(), 0);
+    /// assert_eq!(tree.children(2).unwrap_err(), Refusal::NotAHandle);
+    /// # Ok::<(), Refusal>(())
+    /// ```
+    pub fn children(&self, node: usize) -> Result<Children<'_, 'a>, Refusal> {
+        Children::rising(self, node)
+    }
+
+    /// The children of a node, from the last to the first.
+    ///
+    /// ```
+    /// use vault::Tree;
+    ///
+    /// let tree: Tree = "(()(()))".parse()?;
+    /// assert_eq!(tree.rev_children(0)?.collect::<Result<Vec<_>, _>>(), Ok(vec![3, 1]));
+    /// # Ok::<(), vault::Refusal>(())
+    /// ```
+    pub fn rev_children(&self, node: usize) -> Result<Children<'_, 'a>, Refusal> {
+        Children::falling(self, node)
+    }
+}
