@@ -21,3 +21,7 @@ pub mod Samples
 pub mod ShutOut
 pub mod Agree
 pub mod Worth
+pub mod Unread
+pub mod Likewise
+pub mod Alike
+pub mod Surplus

@@ -6,3 +6,4 @@ pub mod Second
 pub mod Third
 pub mod Cases
 pub mod Worth
+pub mod Surplus
