@@ -1,2 +1,4 @@
 pub mod Small
 mod Reading
+pub mod Room
+pub mod Surplus

@@ -1,12 +1,13 @@
 // The calls over byte slices, for rows of up to 4,096 bits.
 ghost use mathlib.Core.Path.{_≡_};
-ghost use Rattle.asking.specs.Asked.{askedBytes, askedRow};
+ghost use Rattle.asking.specs.Asked.{asked};
+ghost use Rattle.asking.specs.Bytes.{byteAnswer, rowAnswer};
 use crate::question::Question;
 use crate::question::ask;
 
 // Decodes the row and its nodes into arrays, as much as fits, and asks. A longer row reaches the call as one that it refuses by 2.
 pub fn over_bytes(row: &[u8], bits: u64, nodes: &[u8], block: u64, q: Question) -> i64
-    ensures { λ a. ⌜ a ≡ askedBytes (now (row .entry)) bits (now (nodes .entry)) block q ⌝ }
+    ensures { λ a. ⌜ a ≡ byteAnswer asked (now (row .entry)) bits (now (nodes .entry)) block q ⌝ }
 {
     let mut words = [0u64; wire::WORDS];
     let mut numbers = [0i64; wire::NUMBERS];
@@ -23,7 +24,7 @@ pub fn over_bytes(row: &[u8], bits: u64, nodes: &[u8], block: u64, q: Question) 
 
 // The same for a call that takes no nodes.
 pub fn over_row(row: &[u8], bits: u64, q: Question) -> i64
-    ensures { λ a. ⌜ a ≡ askedRow (now (row .entry)) bits q ⌝ }
+    ensures { λ a. ⌜ a ≡ rowAnswer asked (now (row .entry)) bits q ⌝ }
 {
     over_bytes(row, bits, &row[..0], 0, q)
 }

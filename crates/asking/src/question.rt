@@ -3,11 +3,13 @@ ghost use mathlib.Core.Path.{_≡_};
 ghost use Rattle.wire.specs.Answer.{wireOf};
 ghost use Rattle.asking.specs.Asked.{asked};
 
-// A position and an excess, a position, a handle, a handle and a level, a level, or nothing more than the row and its nodes.
+// A position and an excess, a position, a handle, two handles, a handle and a level, a level, or nothing more than the row and its nodes.
 pub enum Question {
     FwdSearch(usize, i64),
     BwdSearch(usize, i64),
+    Close(usize),
     Open(usize),
+    Enclose(usize),
     Root,
     Parent(usize),
     FirstChild(usize),
@@ -15,6 +17,7 @@ pub enum Question {
     NextSibling(usize),
     PreviousSibling(usize),
     IsLeaf(usize),
+    IsAncestor(usize, usize),
     LevelAncestor(usize, u64),
     LevelNext(usize),
     LevelPrev(usize),
@@ -31,7 +34,9 @@ pub fn ask(words: &[u64], n: usize, nodes: &[i64], block: usize, q: Question) ->
     match q {
         Question::FwdSearch(i, r) => wire::found(bp::fwd_search(words, n, nodes, block, i, r)),
         Question::BwdSearch(i, r) => wire::found(bp::bwd_search(words, n, nodes, block, i, r)),
+        Question::Close(i) => wire::found(bp::close(words, n, nodes, block, i)),
         Question::Open(i) => wire::found(bp::open(words, n, nodes, block, i)),
+        Question::Enclose(i) => wire::found(bp::enclose(words, n, nodes, block, i)),
         Question::Root => wire::found(bp::root(words, n)),
         Question::Parent(v) => wire::found(bp::parent(words, n, nodes, block, v)),
         Question::FirstChild(v) => wire::found(bp::first_child(words, n, v)),
@@ -45,6 +50,7 @@ pub fn ask(words: &[u64], n: usize, nodes: &[i64], block: usize, q: Question) ->
             v,
         )),
         Question::IsLeaf(v) => wire::told(bp::is_leaf(words, n, v)),
+        Question::IsAncestor(a, d) => wire::told(bp::is_ancestor(words, n, nodes, block, a, d)),
         Question::LevelAncestor(v, k) => wire::found(bp::level_ancestor(
             words,
             n,

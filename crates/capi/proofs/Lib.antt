@@ -1,2 +1,1 @@
 mod Passed
-pub mod Room

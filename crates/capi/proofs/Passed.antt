@@ -1,10 +1,9 @@
--- What the calls over decoded words and numbers answer.
---   may-small, search-small: a position that is answered is below 2^32
+-- What a build over decoded words answers and leaves.
 --   built-open, built-shut: what a build says of its tests; bytes-open, bytes-shut: what it leaves
 -- Assumes nothing.
 use mathlib.Core.Path.{_≡_, refl, sym, ap, _∙_}
-use mathlib.Core.List.{List, [], _∷_}
-use Prim.Native.Nat.{ℕ, _*_, _≤_}
+use mathlib.Core.List.{List}
+use Prim.Native.Nat.{ℕ, _*_}
 use native.Mathlib.Omega.{arith}
 use lib.IntN.{ℤ}
 use lib.ListN.{length, take, drop}
@@ -13,35 +12,13 @@ use Rattle.row.specs.declared.gate.Gate.{Gate}
 use Rattle.row.specs.declared.gate.Gate.the-variants.{Open, Shut}
 use Rattle.row.specs.Answer.{Answer, at, nothing, refused}
 use Rattle.row.specs.Gates.{through, kept}
-use Rattle.row.specs.Way.{Way}
 use Rattle.mmt.specs.Layout.{width, count, nodesGate}
 use Rattle.mmt.specs.Nodes.{written}
 use Rattle.mmt.specs.Build.{builtNodes}
-use Rattle.mmt.proofs.Admitted.{gate-fine}
 use Rattle.mmt.proofs.Written.{written-length}
-use Rattle.walk.specs.Walk.{walk}
-use Rattle.search.specs.Searches.{searchAnswer}
-use Rattle.demands.specs.First.{May}
-use Rattle.demands.proofs.Walked.{walk-may}
-use Rattle.wire.specs.Answer.{Small}
 use Rattle.wire.specs.Bytes.{numbersOver}
-use Rattle.capi.specs.Calls.{leftBytes}
+use Rattle.capi.specs.Build.{leftBytes}
 
--- ---- positions
-may-small : (n : ℕ) (l : List ℕ) (a : Answer) → n ≤ 4294967296 → May n l a → Small a
-may-small n l (at x) h m = omega arith
-may-small n l nothing h m = tt
-may-small n l (refused k) h m = tt
-
-pub search-small : (w : Way) (ws : List ℕ) (n : ℕ) (s : List ℤ) (B i : ℕ) (r : ℤ) → Small (searchAnswer w ws n s B i r)
-unfolding searchAnswer
-search-small w ws n s B i r = go (nodesGate (length ws) n (length s) B) refl
-  where
-    go : (g : Gate) → nodesGate (length ws) n (length s) B ≡ g → Small (through g (walk w ws n B s i r .answer))
-    go Open e = may-small n (8 ∷ []) (walk w ws n B s i r .answer) (gate-fine (length ws) n (length s) B e .short) (walk-may w ws n B s i r)
-    go (Shut k) e = tt
-
--- ---- a build
 -- 1 for a value
 abbrev valued : Answer → ℕ
 valued (at x) = 1

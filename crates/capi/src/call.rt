@@ -1,15 +1,12 @@
-// The calls over decoded words and numbers, answered as one i64.
+// A build over decoded words, answered as one i64.
 ghost use mathlib.Core.Path.{_≡_};
 ghost use Prim.Native.Nat.{_*_, _≤_};
-ghost use lib.IntN.{negsuc};
 ghost use lib.ListN.{length};
 ghost use Rattle.row.specs.Answer.{at};
 ghost use Rattle.row.specs.Gates.{through};
 ghost use Rattle.mmt.specs.Layout.{width, count, nodesGate};
-ghost use Rattle.search.specs.Searches.{fwdAnswer, bwdAnswer, outward};
-ghost use Rattle.family.specs.Family.{ancestorAnswer};
 ghost use Rattle.wire.specs.Answer.{wireOf};
-ghost use Rattle.capi.specs.Calls.{leftBytes};
+ghost use Rattle.capi.specs.Build.{leftBytes};
 use row::Built;
 
 // The node numbers of n bits.
@@ -34,22 +31,4 @@ pub fn build(words: &[u64], n: usize, numbers: &mut [i64], block: usize, bytes: 
             0
         }
     }
-}
-
-pub fn close(words: &[u64], n: usize, nodes: &[i64], block: usize, i: usize) -> i64
-    ensures { λ r. ⌜ r ≡ wireOf (fwdAnswer (now (words .entry)) n (now (nodes .entry)) block i (negsuc 0)) ⌝ }
-{
-    wire::found(bp::close(words, n, nodes, block, i))
-}
-
-pub fn enclose(words: &[u64], n: usize, nodes: &[i64], block: usize, i: usize) -> i64
-    ensures { λ r. ⌜ r ≡ wireOf (bwdAnswer (now (words .entry)) n (now (nodes .entry)) block i (outward (now (words .entry)) n i)) ⌝ }
-{
-    wire::found(bp::enclose(words, n, nodes, block, i))
-}
-
-pub fn is_ancestor(words: &[u64], n: usize, nodes: &[i64], block: usize, a: usize, d: usize) -> i64
-    ensures { λ r. ⌜ r ≡ wireOf (ancestorAnswer (now (words .entry)) n (now (nodes .entry)) block a d) ⌝ }
-{
-    wire::told(bp::is_ancestor(words, n, nodes, block, a, d))
 }

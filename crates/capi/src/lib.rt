@@ -1,9 +1,12 @@
 // What the vault's host calls: build, close, enclose and is_ancestor over byte slices and numbers, for rows of up to 4,096 bits.
 //
-// Each decodes what it is lent into arrays, as much as fits: more than that no row of 4,096 bits needs. The call below then
+// What is lent is decoded into arrays, as much as fits: more than that no row of 4,096 bits needs. A call over the arrays then
 // tests and answers; a longer row reaches it as one that it refuses by 2. Nothing but a build that is done writes.
 ghost use mathlib.Core.Path.{_≡_};
-ghost use Rattle.capi.specs.Calls.{buildWire, builtBytes, closeWire, encloseWire, ancestorWire};
+ghost use Rattle.demands.specs.Questions.{promised, closeOf, enclose, isAncestor};
+ghost use Rattle.asking.specs.Bytes.{byteAnswer};
+ghost use Rattle.capi.specs.Build.{buildWire, builtBytes};
+use asking::Question;
 
 mod call;
 
@@ -29,37 +32,17 @@ pub extern "C" fn bp_build(row: &[u8], bits: u64, nodes: &mut [u8], block: u64) 
 // close(at), for any position.
 #[no_mangle]
 pub extern "C" fn bp_close(row: &[u8], bits: u64, nodes: &[u8], block: u64, at: u64) -> i64
-    ensures { λ r. ⌜ r ≡ closeWire (now (row .entry)) bits (now (nodes .entry)) block at ⌝ }
+    ensures { λ r. ⌜ r ≡ byteAnswer promised (now (row .entry)) bits (now (nodes .entry)) block (closeOf at) ⌝ }
 {
-    let mut words = [0u64; wire::WORDS];
-    let mut numbers = [0i64; wire::NUMBERS];
-    let w = wire::take_words(row, &mut words[..]);
-    let m = wire::take_numbers(nodes, &mut numbers[..]);
-    call::close(
-        &words[..w],
-        wire::bits(bits),
-        &numbers[..m],
-        block as usize,
-        at as usize,
-    )
+    asking::over_bytes(row, bits, nodes, block, Question::Close(at as usize))
 }
 
 // enclose(at), for any position.
 #[no_mangle]
 pub extern "C" fn bp_enclose(row: &[u8], bits: u64, nodes: &[u8], block: u64, at: u64) -> i64
-    ensures { λ r. ⌜ r ≡ encloseWire (now (row .entry)) bits (now (nodes .entry)) block at ⌝ }
+    ensures { λ r. ⌜ r ≡ byteAnswer promised (now (row .entry)) bits (now (nodes .entry)) block (enclose at) ⌝ }
 {
-    let mut words = [0u64; wire::WORDS];
-    let mut numbers = [0i64; wire::NUMBERS];
-    let w = wire::take_words(row, &mut words[..]);
-    let m = wire::take_numbers(nodes, &mut numbers[..]);
-    call::enclose(
-        &words[..w],
-        wire::bits(bits),
-        &numbers[..m],
-        block as usize,
-        at as usize,
-    )
+    asking::over_bytes(row, bits, nodes, block, Question::Enclose(at as usize))
 }
 
 // is_ancestor(ancestor, descendant): 1 or 0, nothing where the ancestor has no close.
@@ -72,18 +55,13 @@ pub extern "C" fn bp_is_ancestor(
     ancestor: u64,
     descendant: u64,
 ) -> i64
-    ensures { λ r. ⌜ r ≡ ancestorWire (now (row .entry)) bits (now (nodes .entry)) block ancestor descendant ⌝ }
+    ensures { λ r. ⌜ r ≡ byteAnswer promised (now (row .entry)) bits (now (nodes .entry)) block (isAncestor ancestor descendant) ⌝ }
 {
-    let mut words = [0u64; wire::WORDS];
-    let mut numbers = [0i64; wire::NUMBERS];
-    let w = wire::take_words(row, &mut words[..]);
-    let m = wire::take_numbers(nodes, &mut numbers[..]);
-    call::is_ancestor(
-        &words[..w],
-        wire::bits(bits),
-        &numbers[..m],
-        block as usize,
-        ancestor as usize,
-        descendant as usize,
+    asking::over_bytes(
+        row,
+        bits,
+        nodes,
+        block,
+        Question::IsAncestor(ancestor as usize, descendant as usize),
     )
 }

@@ -1,8 +1,8 @@
 // The calls on levels over byte slices, for rows of up to 4,096 bits.
 // Each is one question, and promises what the call that answers it promises of the words and numbers that the bytes hold.
 ghost use mathlib.Core.Path.{_≡_};
-ghost use Rattle.demands.specs.Questions.{levelAncestor, levelNext, levelPrev, levelLeftmost, levelRightmost};
-ghost use Rattle.probe.specs.Bytes.{byteAnswer};
+ghost use Rattle.demands.specs.Questions.{promised, levelAncestor, levelNext, levelPrev, levelLeftmost, levelRightmost};
+ghost use Rattle.asking.specs.Bytes.{byteAnswer};
 use asking::Question;
 
 // level_ancestor(node, level).
@@ -15,7 +15,7 @@ pub extern "C" fn bp_level_ancestor(
     node: u64,
     level: u64,
 ) -> i64
-    ensures { λ a. ⌜ a ≡ byteAnswer (now (row .entry)) bits (now (nodes .entry)) block (levelAncestor node level) ⌝ }
+    ensures { λ a. ⌜ a ≡ byteAnswer promised (now (row .entry)) bits (now (nodes .entry)) block (levelAncestor node level) ⌝ }
 {
     asking::over_bytes(
         row,
@@ -29,7 +29,7 @@ pub extern "C" fn bp_level_ancestor(
 // level_next(node).
 #[no_mangle]
 pub extern "C" fn bp_level_next(row: &[u8], bits: u64, nodes: &[u8], block: u64, node: u64) -> i64
-    ensures { λ a. ⌜ a ≡ byteAnswer (now (row .entry)) bits (now (nodes .entry)) block (levelNext node) ⌝ }
+    ensures { λ a. ⌜ a ≡ byteAnswer promised (now (row .entry)) bits (now (nodes .entry)) block (levelNext node) ⌝ }
 {
     asking::over_bytes(row, bits, nodes, block, Question::LevelNext(node as usize))
 }
@@ -37,7 +37,7 @@ pub extern "C" fn bp_level_next(row: &[u8], bits: u64, nodes: &[u8], block: u64,
 // level_prev(node).
 #[no_mangle]
 pub extern "C" fn bp_level_prev(row: &[u8], bits: u64, nodes: &[u8], block: u64, node: u64) -> i64
-    ensures { λ a. ⌜ a ≡ byteAnswer (now (row .entry)) bits (now (nodes .entry)) block (levelPrev node) ⌝ }
+    ensures { λ a. ⌜ a ≡ byteAnswer promised (now (row .entry)) bits (now (nodes .entry)) block (levelPrev node) ⌝ }
 {
     asking::over_bytes(row, bits, nodes, block, Question::LevelPrev(node as usize))
 }
@@ -51,7 +51,7 @@ pub extern "C" fn bp_level_leftmost(
     block: u64,
     level: u64,
 ) -> i64
-    ensures { λ a. ⌜ a ≡ byteAnswer (now (row .entry)) bits (now (nodes .entry)) block (levelLeftmost level) ⌝ }
+    ensures { λ a. ⌜ a ≡ byteAnswer promised (now (row .entry)) bits (now (nodes .entry)) block (levelLeftmost level) ⌝ }
 {
     asking::over_bytes(row, bits, nodes, block, Question::LevelLeftmost(level))
 }
@@ -65,7 +65,7 @@ pub extern "C" fn bp_level_rightmost(
     block: u64,
     level: u64,
 ) -> i64
-    ensures { λ a. ⌜ a ≡ byteAnswer (now (row .entry)) bits (now (nodes .entry)) block (levelRightmost level) ⌝ }
+    ensures { λ a. ⌜ a ≡ byteAnswer promised (now (row .entry)) bits (now (nodes .entry)) block (levelRightmost level) ⌝ }
 {
     asking::over_bytes(row, bits, nodes, block, Question::LevelRightmost(level))
 }

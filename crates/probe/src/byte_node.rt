@@ -1,14 +1,14 @@
 // The calls on nodes over byte slices, for rows of up to 4,096 bits.
 // Each is one question, and promises what the call that answers it promises of the words and numbers that the bytes hold.
 ghost use mathlib.Core.Path.{_≡_};
-ghost use Rattle.demands.specs.Questions.{root, firstChild, isLeaf, parent, lastChild, nextSibling, previousSibling};
-ghost use Rattle.probe.specs.Bytes.{byteAnswer, rowAnswer};
+ghost use Rattle.demands.specs.Questions.{promised, root, firstChild, isLeaf, parent, lastChild, nextSibling, previousSibling};
+ghost use Rattle.asking.specs.Bytes.{byteAnswer, rowAnswer};
 use asking::Question;
 
 // root(): 0, nothing on the empty row.
 #[no_mangle]
 pub extern "C" fn bp_root(row: &[u8], bits: u64) -> i64
-    ensures { λ a. ⌜ a ≡ rowAnswer (now (row .entry)) bits root ⌝ }
+    ensures { λ a. ⌜ a ≡ rowAnswer promised (now (row .entry)) bits root ⌝ }
 {
     asking::over_row(row, bits, Question::Root)
 }
@@ -16,7 +16,7 @@ pub extern "C" fn bp_root(row: &[u8], bits: u64) -> i64
 // first_child(node).
 #[no_mangle]
 pub extern "C" fn bp_first_child(row: &[u8], bits: u64, node: u64) -> i64
-    ensures { λ a. ⌜ a ≡ rowAnswer (now (row .entry)) bits (firstChild node) ⌝ }
+    ensures { λ a. ⌜ a ≡ rowAnswer promised (now (row .entry)) bits (firstChild node) ⌝ }
 {
     asking::over_row(row, bits, Question::FirstChild(node as usize))
 }
@@ -24,7 +24,7 @@ pub extern "C" fn bp_first_child(row: &[u8], bits: u64, node: u64) -> i64
 // is_leaf(node): 1 or 0.
 #[no_mangle]
 pub extern "C" fn bp_is_leaf(row: &[u8], bits: u64, node: u64) -> i64
-    ensures { λ a. ⌜ a ≡ rowAnswer (now (row .entry)) bits (isLeaf node) ⌝ }
+    ensures { λ a. ⌜ a ≡ rowAnswer promised (now (row .entry)) bits (isLeaf node) ⌝ }
 {
     asking::over_row(row, bits, Question::IsLeaf(node as usize))
 }
@@ -32,7 +32,7 @@ pub extern "C" fn bp_is_leaf(row: &[u8], bits: u64, node: u64) -> i64
 // parent(node).
 #[no_mangle]
 pub extern "C" fn bp_parent(row: &[u8], bits: u64, nodes: &[u8], block: u64, node: u64) -> i64
-    ensures { λ a. ⌜ a ≡ byteAnswer (now (row .entry)) bits (now (nodes .entry)) block (parent node) ⌝ }
+    ensures { λ a. ⌜ a ≡ byteAnswer promised (now (row .entry)) bits (now (nodes .entry)) block (parent node) ⌝ }
 {
     asking::over_bytes(row, bits, nodes, block, Question::Parent(node as usize))
 }
@@ -40,7 +40,7 @@ pub extern "C" fn bp_parent(row: &[u8], bits: u64, nodes: &[u8], block: u64, nod
 // last_child(node).
 #[no_mangle]
 pub extern "C" fn bp_last_child(row: &[u8], bits: u64, nodes: &[u8], block: u64, node: u64) -> i64
-    ensures { λ a. ⌜ a ≡ byteAnswer (now (row .entry)) bits (now (nodes .entry)) block (lastChild node) ⌝ }
+    ensures { λ a. ⌜ a ≡ byteAnswer promised (now (row .entry)) bits (now (nodes .entry)) block (lastChild node) ⌝ }
 {
     asking::over_bytes(row, bits, nodes, block, Question::LastChild(node as usize))
 }
@@ -48,7 +48,7 @@ pub extern "C" fn bp_last_child(row: &[u8], bits: u64, nodes: &[u8], block: u64,
 // next_sibling(node).
 #[no_mangle]
 pub extern "C" fn bp_next_sibling(row: &[u8], bits: u64, nodes: &[u8], block: u64, node: u64) -> i64
-    ensures { λ a. ⌜ a ≡ byteAnswer (now (row .entry)) bits (now (nodes .entry)) block (nextSibling node) ⌝ }
+    ensures { λ a. ⌜ a ≡ byteAnswer promised (now (row .entry)) bits (now (nodes .entry)) block (nextSibling node) ⌝ }
 {
     asking::over_bytes(
         row,
@@ -68,7 +68,7 @@ pub extern "C" fn bp_previous_sibling(
     block: u64,
     node: u64,
 ) -> i64
-    ensures { λ a. ⌜ a ≡ byteAnswer (now (row .entry)) bits (now (nodes .entry)) block (previousSibling node) ⌝ }
+    ensures { λ a. ⌜ a ≡ byteAnswer promised (now (row .entry)) bits (now (nodes .entry)) block (previousSibling node) ⌝ }
 {
     asking::over_bytes(
         row,

@@ -11,7 +11,7 @@ use Rattle.row.specs.Gates.{through}
 use Rattle.mmt.specs.Layout.{nodesGate}
 use Rattle.wire.specs.Answer.{wireOf}
 use Rattle.wire.specs.Bytes.{wordAt, numberAt, wordsIn}
-use Rattle.capi.specs.Calls.{leftBytes}
+use Rattle.capi.specs.Build.{leftBytes}
 use Rattle.wire.proofs.Lent.{lent, lent-few, same}
 use borrow.Author.Needs.{needs}
 use Rattle.capi.proofs.bp_build.Statement.{statement}

@@ -1,6 +1,6 @@
 -- The arrays have room for all that a row of up to 4,096 bits needs: what fits passes the tests as all bytes would, for every input.
 --   leb-min: a test against a lesser bound; nodes-fit: the nodes of 4,096 bits; room-is, row-is: refusals 4 and 3
---   gate-all: refusals 1 to 4 over what fits are those over all words and numbers of the bytes
+--   row-all, gate-all: refusals 2 and 3, and 1 to 4, over what fits are those over all words and numbers of the bytes
 --   over-limit: a bit count above 4,096 is refused by 2 where the block size is not refused
 -- Assumes nothing.
 use mathlib.Core.Path.{_≡_, refl, sym, _∙_}
@@ -30,7 +30,7 @@ leb-min x a m h =
 leaves-fit : (n B : ℕ) → 8 ≤ B → n ≤ 4096 → leaves n B ≤ 512
 leaves-fit n B h k = elim (decLt 512 (leaves n B)) [ yes l ↦ absurd (omega (arith, leaves-in n B (omega arith) 512 l)) | no l ↦ omega arith ]
 
-nodes-fit : (n B : ℕ) → 8 ≤ B → n ≤ 4096 → width * count n B ≤ numberRoom
+pub nodes-fit : (n B : ℕ) → 8 ≤ B → n ≤ 4096 → width * count n B ≤ numberRoom
 unfolding layoutOf
 nodes-fit n B h k = go (eqb n 0) refl
   where
@@ -50,6 +50,14 @@ room-is n t B h k = rw (leb-min (width * count n B) t numberRoom (nodes-fit n B 
 too-long : (w n : ℕ) → 4294967296 < n → rowGate w n ≡ Shut TooManyBits
 unfolding rowGate
 too-long w n h = rw (lt-leb n 4294967296 h)
+
+pub row-all : (w bits : ℕ) → rowGate (min w wordRoom) (wireBits bits) ≡ rowGate w (wireBits bits)
+unfolding wireBits
+row-all w bits =
+    elim (decLt 4096 bits) [
+      | yes l ↦ rw (lt-leb bits 4096 l) (too-long (min w wordRoom) 4294967297 (omega arith) ∙ sym (too-long w 4294967297 (omega arith)))
+      | no l ↦ let h : bits ≤ 4096 = omega arith in rw (le-leb bits 4096 h) (row-is w bits h)
+    ]
 
 module _ (w bits t B : ℕ) where
   short : blockGate B ≡ Open → bits ≤ 4096

@@ -1,15 +1,13 @@
--- What the four calls answer over bytes, and what a build leaves in them.
+-- What a build answers over bytes, and what it leaves in them.
 -- Assumes nothing.
 use mathlib.Core.List.{List}
 use Prim.Native.Nat.{ℕ}
-use lib.IntN.{ℤ, negsuc}
+use lib.IntN.{ℤ}
 use lib.ListN.{length}
 use Rattle.row.specs.Answer.{at}
 use Rattle.row.specs.Gates.{through, kept}
 use Rattle.mmt.specs.Layout.{nodesGate}
 use Rattle.mmt.specs.Nodes.{written}
-use Rattle.search.specs.Searches.{fwdAnswer, bwdAnswer, outward}
-use Rattle.family.specs.Family.{ancestorAnswer}
 use Rattle.wire.specs.Answer.{wireOf}
 use Rattle.wire.specs.Limit.{wireBits}
 use Rattle.wire.specs.Bytes.{numbersOver}
@@ -27,16 +25,3 @@ buildWire row bits nodes B = wireOf (through (nodesGate (length (rowWords row)) 
 -- the bytes after it
 abbrev pub builtBytes : List ℕ → ℕ → List ℕ → ℕ → List ℕ
 builtBytes row bits nodes B = leftBytes (rowWords row) (wireBits bits) (length (nodeNumbers nodes)) B nodes
-
--- close(i)
-abbrev pub closeWire : List ℕ → ℕ → List ℕ → ℕ → ℕ → ℤ
-closeWire row bits nodes B i = wireOf (fwdAnswer (rowWords row) (wireBits bits) (nodeNumbers nodes) B i (negsuc 0))
-
--- enclose(i)
-abbrev pub encloseWire : List ℕ → ℕ → List ℕ → ℕ → ℕ → ℤ
-encloseWire row bits nodes B i =
-    wireOf (bwdAnswer (rowWords row) (wireBits bits) (nodeNumbers nodes) B i (outward (rowWords row) (wireBits bits) i))
-
--- is_ancestor(a, d)
-abbrev pub ancestorWire : List ℕ → ℕ → List ℕ → ℕ → ℕ → ℕ → ℤ
-ancestorWire row bits nodes B a d = wireOf (ancestorAnswer (rowWords row) (wireBits bits) (nodeNumbers nodes) B a d)
