@@ -10,8 +10,7 @@ use native.Mathlib.Omega.{arith}
 use lib.IntN.{ℤ}
 use lib.ListN.{length}
 use denote.Ref.{RefT, now}
-use Rattle.row.specs.Answer.{Answer, at, nothing}
-use Rattle.row.specs.Gates.{rowGate}
+use Rattle.row.specs.Answer.{Answer, at}
 use Rattle.row.proofs.Gates.{row-open}
 use Rattle.mmt.specs.Layout.{Fine}
 use Rattle.mmt.proofs.Admitted.{fine-gate}

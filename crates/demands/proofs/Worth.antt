@@ -2,8 +2,7 @@
 --   itself: what is promised as it is
 --   worth: all of them
 -- Assumes nothing.
-use mathlib.Core.Path.{_≡_, sym, _∙_}
-use lib.ListN.{length}
+use mathlib.Core.Path.{sym, _∙_}
 use Rattle.row.specs.Answer.{numberOf}
 use Rattle.text.specs.Text.{textWords}
 use Rattle.scan.specs.OneTree.{oneTreeAnswer}

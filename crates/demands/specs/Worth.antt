@@ -9,7 +9,6 @@ use mathlib.Core.Bool.{Bool}
 use mathlib.Core.List.{List}
 use Prim.Native.Nat.{ℕ}
 use lib.IntN.{ℤ}
-use lib.ListN.{length}
 use denote.Ref.{RefT}
 use Rattle.row.specs.declared.refusal.Refusal.{Refusal}
 use Rattle.row.specs.Answer.{numberOf, paperFound, paperTold, paperBuilt, paperRead}

@@ -30,16 +30,15 @@ use Rattle.row.specs.declared.refusal.Refusal.{Refusal}
 use Rattle.row.specs.declared.gate.Gate.{Gate}
 use Rattle.row.specs.declared.gate.Gate.the-variants.{Open, Shut}
 use Rattle.row.specs.Answer.{Answer, at, nothing, refused, numberOf, paperFound}
-use Rattle.row.specs.Gates.{handleGate, andThen, through}
+use Rattle.row.specs.Gates.{through}
 use Rattle.row.specs.Way.{Way, forward, backward}
-use Rattle.mmt.specs.Layout.{nodesGate, Fine}
+use Rattle.mmt.specs.Layout.{nodesGate}
 use Rattle.mmt.specs.Nodes.{AsBuilt}
 use Rattle.mmt.proofs.Admitted.{gate-fine}
 use Rattle.walk.specs.Walk.{ends, walk}
 use Rattle.walk.proofs.Answers.{walk-end, walk-far}
 use Rattle.search.specs.Composed.{Searches, walked, defined, onward, openOf}
 use Rattle.level.specs.Levels.{levelAncestor, levelNext, levelPrev, levelLeftmost, levelRightmost, rootStart, lastStart}
-use Rattle.search.specs.Handles.{nodeAnswer, nodeDefined}
 use Rattle.level.specs.Levels.{levelAnswer, rightmostAnswer, rightmostDefined}
 use Rattle.search.specs.Searches.{WhereBuilt}
 use Rattle.search.proofs.Defined.{call-defined}

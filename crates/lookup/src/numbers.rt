@@ -1,6 +1,5 @@
 // The three numbers of a byte: the total by counting, least and greatest by the table.
 ghost use mathlib.Core.Path.{_≡_};
-ghost use Prim.Native.Nat.{_<_, _≤_};
 ghost use lib.IntN.{pos, _-ℤ_};
 ghost use Rattle.row.specs.Bits.{digit};
 ghost use Rattle.row.specs.Excess.{excess};

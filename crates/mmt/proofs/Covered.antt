@@ -3,10 +3,10 @@
 --   Node: the numbers of a stretch, or (0,0,0) where it is empty; covers: each node has them; solid: a node that begins before n
 --   node-is: a node's numbers are those of its stretch; ruled-tame: they are small
 -- Assumes nothing.
-use mathlib.Core.Path.{_≡_, refl, sym, ap, _∙_, subst}
+use mathlib.Core.Path.{_≡_, refl, sym, ap, _∙_}
 use mathlib.Core.Bool.{Bool, true, false}
 use mathlib.Core.List.{List}
-use Prim.Native.Nat.{ℕ, zero, suc, _+_, _-_, _*_, _^_, _≤_, _<_, min}
+use Prim.Native.Nat.{ℕ, zero, suc, _+_, _-_, _*_, _≤_, _<_, min}
 use native.Mathlib.Omega.{arith}
 use native.Mathlib.Decide.{decLt}
 use borrow.Author.Tests.{ltb-true, ltb-false}
@@ -23,7 +23,7 @@ use Rattle.row.proofs.Excess.{Near, steps}
 use Rattle.stretch.specs.declared.numbers.Numbers.{Numbers}
 use Rattle.stretch.specs.Numbers.{none, numbersOf, joinOf, Tame}
 use Rattle.stretch.proofs.Full.{Full, end-over, end-under, join-full, full-only, numbers-full, numbers-tame}
-use Rattle.mmt.specs.Layout.{leaves, innerFor, inner, count}
+use Rattle.mmt.specs.Layout.{leaves, innerFor, count}
 use Rattle.mmt.specs.Nodes.{nodeAt, leafOf, innerOf, Ruled}
 use Rattle.mmt.proofs.Powers.{levels, inner-top, inner-room, leaves-in}
 use Rattle.mmt.proofs.Nodes.{inner-both, inner-left, inner-none, from-inner, from-leaf}

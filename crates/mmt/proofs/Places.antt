@@ -10,7 +10,7 @@ use Prim.Native.Nat.{ℕ, zero, suc, _+_, _-_, _*_, _/_, _%_, _^_, _≤_, _<_, m
 use native.Mathlib.Omega.{arith}
 use native.Mathlib.Nat.{suc-mul, mul-assoc, mul-comm, pow-succ', mul-le-mul-right}
 use native.Mathlib.Decide.{decLt}
-use lib.Pow.{pow-pos, pow-mono, pow-add}
+use lib.Pow.{pow-mono, pow-add}
 use Rattle.mmt.specs.declared.layout.Layout.{Layout}
 use Rattle.mmt.specs.Layout.{leaves, innerFor, inner, count}
 use Rattle.mmt.proofs.Powers.{leaves-in, leaves-out}

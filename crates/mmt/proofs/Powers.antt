@@ -9,10 +9,10 @@ use mathlib.Core.Bool.{Bool, true, false, cond}
 use Prim.Native.Nat.{ℕ, zero, suc, _+_, _-_, _*_, _/_, _%_, _^_, _≤_, _<_, max}
 use native.Mathlib.Omega.{arith}
 use native.Mathlib.Nat.{suc-mul, mul-assoc, mul-comm, mul-mod-right, pow-succ', mul-le-mul-right, mul-le-mul-left, div-add-mod', mod-lt}
-use native.Mathlib.Decide.{decLt, decLe}
+use native.Mathlib.Decide.{decLt}
 use borrow.Author.Tests.{leb-true, leb-false}
 use lib.Dec.{leb}
-use lib.Pow.{pow-pos, pow-mono, pow-lt, high, ones-split, ones-lt}
+use lib.Pow.{pow-pos, pow-mono, high, ones-split, ones-lt}
 use Rattle.mmt.specs.Layout.{leaves, exponent, power, innerFor}
 
 -- ---- the least power of two

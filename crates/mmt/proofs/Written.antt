@@ -5,16 +5,15 @@
 --   written-length, written-is: the buffer that is written; written-built: it is as built
 -- Assumes nothing.
 use mathlib.Core.Path.{_≡_, refl, sym, ap, _∙_}
-use mathlib.Core.List.{List, [], _∷_, _++_}
+use mathlib.Core.List.{List, _++_}
 use Prim.Native.Nat.{ℕ, zero, suc, _+_, _-_, _*_, _/_, _%_, _≤_, _<_}
 use native.Mathlib.Omega.{arith}
 use native.Mathlib.Decide.{decLt}
-use native.Mathlib.Nat.{add-zero, add-suc, suc-add, zero-add}
+use native.Mathlib.Nat.{add-zero, zero-add}
 use lib.IntN.{ℤ, pos}
 use lib.ListN.{getD, length, drop, length-append, length-drop, List·getD-append}
 use lib.Seq.{ext-getD, getD-append-add, getD-drop}
 use Rattle.stretch.specs.declared.numbers.Numbers.{Numbers}
-use Rattle.stretch.specs.Numbers.{none}
 use Rattle.mmt.specs.Layout.{width, count}
 use Rattle.mmt.specs.Nodes.{nodeAt, nodeFrom, Ruled, AsBuilt, nodeOf, listed, written}
 use Rattle.mmt.proofs.Nodes.{from-ext}

@@ -1,12 +1,12 @@
 -- The numbers of each node, and the buffer that a build writes.
 -- Assumes nothing.
 use mathlib.Core.Path.{_≡_}
-use mathlib.Core.Bool.{Bool, true, cond, _&&_}
-use mathlib.Core.List.{List, [], _∷_, _++_}
+use mathlib.Core.Bool.{cond}
+use mathlib.Core.List.{List, [], _∷_}
 use Prim.Native.Nat.{ℕ, zero, suc, _+_, _-_, _*_, _≤_, _<_, min}
 use lib.Dec.{ltb}
 use lib.IntN.{ℤ, pos}
-use lib.ListN.{getD, length, set, drop}
+use lib.ListN.{getD, length, set}
 use Rattle.row.specs.Bits.{bitAt}
 use Rattle.stretch.specs.declared.numbers.Numbers.{Numbers}
 use Rattle.stretch.specs.Numbers.{none, numbersOf, joinOf}

@@ -1,7 +1,6 @@
 // The test that a buffer is the one that a build writes, without a second buffer: each node against its bits, or against the
 // join of its children as they stand. From the last node to the first, so that the children have been found right before.
 ghost use mathlib.Core.Path.{_≡_};
-ghost use Prim.Native.Nat.{_*_, _≤_};
 ghost use lib.ListN.{length};
 ghost use Rattle.row.specs.Answer.{paperTold};
 ghost use Rattle.lookup.specs.Table.{IsTable};

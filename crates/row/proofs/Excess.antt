@@ -4,8 +4,8 @@
 --   excess-add: the bits from a on count apart; excess-ext: only the bits counted matter
 --   excess-ones: the excess of a number's digits is its ones less its zeros
 -- Assumes nothing.
-use mathlib.Core.Path.{_≡_, refl, sym, ap, ap₂, _∙_, subst}
-use Prim.Native.Nat.{ℕ, zero, suc, _+_, _-_, _*_, _/_, _%_, _^_, _≤_, _<_}
+use mathlib.Core.Path.{_≡_, refl, ap, ap₂}
+use Prim.Native.Nat.{ℕ, zero, suc, _+_, _-_, _/_, _%_, _^_, _≤_, _<_}
 use native.Mathlib.Nat.{add-zero, add-suc, div-one}
 use native.Mathlib.Numerals.{add-one, one-add}
 use native.Mathlib.Omega.{arith}
@@ -14,8 +14,8 @@ use lib.Count.{ones, ones-step, ones-le}
 use lib.IntN.{ℤ, pos, negsuc, _+ℤ_, _-ℤ_}
 use lib.Pow.{shr-lt}
 use lib.Signed.{_≤ℤ_}
-use Rattle.ints.specs.Sides.{up, dn, size}
-use Rattle.ints.proofs.Linear.{plus, minus, diff, plus-size}
+use Rattle.ints.specs.Sides.{size}
+use Rattle.ints.proofs.Linear.{plus, diff, plus-size}
 use Rattle.ints.proofs.Shapes.{zsum}
 use Rattle.row.specs.Bits.{digit}
 use Rattle.row.specs.Excess.{sign, excess}

@@ -1,6 +1,6 @@
 -- The tests that come before an answer, in document 01's order: 2, 3, then 5.
 -- Assumes nothing.
-use mathlib.Core.Bool.{Bool, cond}
+use mathlib.Core.Bool.{cond}
 use mathlib.Core.List.{List}
 use Prim.Native.Nat.{ℕ, _+_, _/_}
 use lib.Dec.{leb}

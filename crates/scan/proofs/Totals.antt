@@ -10,7 +10,6 @@ use native.Mathlib.Omega.{arith}
 use lib.ListN.{getD}
 use Rattle.row.specs.Bits.{digit, bitAt, byteAt}
 use Rattle.row.proofs.Digits.{word-bits, byte-bits}
-use Rattle.stretch.specs.declared.numbers.Numbers.{Numbers}
 use Rattle.stretch.specs.Numbers.{numbersOf, joinOf}
 use Rattle.stretch.proofs.Full.{numbers-join, numbers-ext}
 

@@ -1,6 +1,6 @@
 // Bits of a row that stand in one word, one by one: those before the first whole byte of a stretch and after the last.
 ghost use mathlib.Core.Path.{_≡_};
-ghost use Prim.Native.Nat.{_+_, _-_, _*_, _/_, _<_, _≤_};
+ghost use Prim.Native.Nat.{_+_, _-_, _*_, _/_, _<_};
 ghost use lib.ListN.{length};
 ghost use Rattle.ints.specs.Sides.{size};
 ghost use Rattle.row.specs.Bits.{bitAt};

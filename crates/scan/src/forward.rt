@@ -1,6 +1,5 @@
 // A scan forward: the first position of a stretch after which the excess has moved by r, or what is left of r.
 ghost use mathlib.Core.Path.{_≡_};
-ghost use mathlib.Core.Bool.{Bool};
 ghost use Prim.Native.Nat.{_+_, _-_, _*_, _<_, _≤_};
 ghost use lib.ListN.{length};
 ghost use Rattle.ints.specs.Sides.{size};

@@ -1,6 +1,6 @@
 // The three numbers of a stretch of a row, by bytes.
 ghost use mathlib.Core.Path.{_≡_};
-ghost use Prim.Native.Nat.{_+_, _-_, _*_, _%_, _<_, _≤_};
+ghost use Prim.Native.Nat.{_+_, _-_, _*_, _%_, _<_};
 ghost use lib.ListN.{length};
 ghost use Rattle.row.specs.Bits.{bitAt};
 ghost use Rattle.stretch.specs.Numbers.{numbersOf};

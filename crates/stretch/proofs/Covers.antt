@@ -5,7 +5,7 @@
 -- Assumes nothing.
 use mathlib.Core.Path.{_≡_, refl, sym, ap, _∙_}
 use mathlib.Core.Logic.{_⊎_, inl, inr, ⊎-elim}
-use mathlib.Core.Bool.{Bool, true, false, cond, _&&_, _||_, true≢false}
+use mathlib.Core.Bool.{Bool, true, false, cond, _||_, true≢false}
 use Prim.Native.Nat.{ℕ, zero, suc, _+_, _-_, _≤_, _<_}
 use native.Mathlib.Omega.{arith}
 use native.Mathlib.Decide.{decLt}
@@ -26,7 +26,7 @@ use Rattle.stretch.specs.declared.bits.Scanned.{Scanned}
 use Rattle.stretch.specs.declared.bits.Scanned.the-variants.{Hit, Left}
 use Rattle.stretch.specs.Numbers.{run, none, numbersOf, holdsFor, holdsBack}
 use Rattle.stretch.specs.Scan.{place, rest, passed, less, scan}
-use Rattle.stretch.proofs.Full.{Full, end-over, end-under, numbers-full}
+use Rattle.stretch.proofs.Full.{Full, numbers-full}
 use Rattle.stretch.proofs.Meets.{met, found, scan-nearest, scan-left, scan-none}
 
 -- ---- the tests

@@ -4,21 +4,21 @@
 --   join-full: two stretches joined; numbers-full: the numbers of bits; numbers-join: more bits are two stretches joined
 --   numbers-ext: only the bits matter, not where they stand; numbers-tame: the numbers are small
 -- Assumes nothing.
-use mathlib.Core.Path.{_≡_, refl, sym, ap, ap₂, _∙_, subst}
+use mathlib.Core.Path.{_≡_, refl, ap, ap₂}
 use mathlib.Core.Bool.{Bool, true, false}
 use Prim.Native.Nat.{ℕ, zero, suc, _+_, _-_, _≤_, _<_}
 use native.Mathlib.Omega.{arith}
 use native.Mathlib.Decide.{decLt}
 use native.Mathlib.Nat.{add-suc, add-zero}
-use lib.IntN.{ℤ, pos, negsuc, _+ℤ_, _-ℤ_}
-use lib.Signed.{leZ, _≤ℤ_, _<ℤ_}
+use lib.IntN.{ℤ, _+ℤ_}
+use lib.Signed.{leZ, _≤ℤ_}
 use Rattle.ints.specs.Sides.{size}
 use Rattle.ints.specs.Order.{minZ, maxZ}
-use Rattle.ints.proofs.Linear.{plus, minus}
+use Rattle.ints.proofs.Linear.{plus}
 use Rattle.ints.proofs.Shapes.{zsum}
 use Rattle.ints.proofs.Order.{min-ud, max-ud, min-size, max-size}
 use Rattle.row.specs.Excess.{sign, excess}
-use Rattle.row.proofs.Excess.{Near, steps, excess-add, excess-ext, excess-size}
+use Rattle.row.proofs.Excess.{Near, steps, excess-ext, excess-size}
 use Rattle.stretch.specs.declared.numbers.Numbers.{Numbers}
 use Rattle.stretch.specs.Numbers.{run, lowest, highest, none, numbersOf, joinOf, Tame}
 

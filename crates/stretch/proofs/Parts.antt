@@ -3,12 +3,12 @@
 --   moved, scan-shift: the same bits, a further on; scan-ext: only the bits read matter
 --   scan-size: c bits move what is left by c at most
 -- Assumes nothing.
-use mathlib.Core.Path.{_≡_, refl, sym, ap, ap₂, _∙_, subst}
+use mathlib.Core.Path.{_≡_, refl, sym, ap, _∙_}
 use mathlib.Core.Bool.{Bool, true, false, cond}
 use Prim.Native.Nat.{ℕ, zero, suc, _+_, _-_, _≤_, _<_}
 use native.Mathlib.Omega.{arith}
 use native.Mathlib.Nat.{zero-add, add-zero, suc-add, add-suc, add-assoc}
-use lib.IntN.{ℤ, pos, _+ℤ_, _-ℤ_}
+use lib.IntN.{ℤ, pos}
 use Rattle.ints.specs.Sides.{size}
 use Rattle.ints.specs.Order.{eqZ}
 use Rattle.stretch.specs.declared.bits.Scanned.{Scanned}

@@ -7,7 +7,7 @@ ghost use mathlib.Core.List.{_++_};
 ghost use Prim.Native.Nat.{_*_, _≤_, _<_};
 ghost use lib.ListN.{length, drop};
 ghost use Rattle.row.specs.Answer.{at, paperRead};
-ghost use Rattle.row.specs.Gates.{wordsFor, through};
+ghost use Rattle.row.specs.Gates.{through};
 ghost use Rattle.text.specs.Text.{isParenthesis, allParentheses, textBit, wordOf, wordsOf, textGate, textWords};
 use row::Gate;
 use row::Read;

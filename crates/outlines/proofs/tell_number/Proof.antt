@@ -8,7 +8,6 @@ use mir.Syntax.{w64}
 use mir.Val.{Fits, SFits}
 use mir.ValLaws.{toZ-ofZ}
 use Rattle.ints.proofs.Shapes.{zsum}
-use native.Mathlib.Omega.{arith}
 use borrow.Author.Needs.{needs}
 use Rattle.outlines.proofs.tell_number.Statement.{statement}
 use Rattle.outlines.proofs.tell_number.Tie as tie

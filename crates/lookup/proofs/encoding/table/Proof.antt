@@ -1,6 +1,5 @@
 -- `lookup::table` meets its contract: the table is the list that the rule makes, which is computed over all 256 bytes at once.
 -- Assumes nothing.
-use Prim.Native.Nat.{ℕ}
 use Rattle.ints.specs.Order.{minZ, maxZ}
 use Rattle.row.specs.Bits.{digit}
 use Rattle.row.specs.Excess.{sign, excess}

@@ -1,11 +1,11 @@
 -- `mmt::fill_leaves` meets its contract. The loop's invariant: the first b leaves are filled. The measure is how many are
 -- left. Assumes nothing.
 use mathlib.Core.Path.{_≡_, _∙_}
-use Prim.Native.Nat.{_-_, _*_, _/_, _≤_}
+use Prim.Native.Nat.{_-_, _≤_}
 use borrow.Author.Needs.{needs}
 use native.Mathlib.Omega.{arith}
-use lib.ListN.{length, length-set}
-use Rattle.mmt.specs.Layout.{width, leaves}
+use lib.ListN.{length}
+use Rattle.mmt.specs.Layout.{leaves}
 use Rattle.mmt.specs.Filling.{Filled}
 use Rattle.mmt.proofs.Powers.{leaves-in}
 use Rattle.mmt.proofs.Nodes.{put-length}

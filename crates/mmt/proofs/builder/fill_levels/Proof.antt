@@ -1,10 +1,9 @@
 -- `mmt::fill_levels` meets its contract. The loop's invariant: the nodes from k on are filled. The measure is k.
 -- Assumes nothing.
-use mathlib.Core.Path.{_≡_, _∙_}
-use Prim.Native.Nat.{_+_, _-_, _*_, _≤_}
+use mathlib.Core.Path.{_≡_}
+use Prim.Native.Nat.{_+_, _-_, _≤_}
 use borrow.Author.Needs.{needs}
 use native.Mathlib.Omega.{arith}
-use lib.ListN.{length}
 use Rattle.mmt.specs.Filling.{Leveled}
 use Rattle.mmt.proofs.Filled.{leveled-start, leveled-down}
 use Rattle.mmt.proofs.builder.fill_levels.Statement.{statement}

@@ -1,6 +1,5 @@
 -- `mmt::admit_block` meets its contract: each return by the tests that led there. Assumes nothing.
 use native.Mathlib.Omega.{arith}
-use borrow.Author.Needs.{needs}
 use Rattle.mmt.proofs.Admitted.{block-zero, block-large, block-odd, block-open}
 use Rattle.mmt.proofs.layout.admit_block.Statement.{statement}
 use Rattle.mmt.proofs.layout.admit_block.Tie as tie

@@ -1,8 +1,7 @@
 -- `mmt::wanted` meets its contract: an inner node from those after it, which are small because they are as built; a leaf from
 -- its bits. Assumes nothing.
-use mathlib.Core.Path.{_≡_, sym, ap, _∙_}
+use mathlib.Core.Path.{sym, ap, _∙_}
 use Prim.Native.Nat.{ℕ, _+_, _-_, _*_, _≤_, _<_}
-use borrow.Author.Needs.{needs}
 use native.Mathlib.Omega.{arith}
 use Rattle.mmt.specs.Layout.{inner, count}
 use Rattle.mmt.specs.Nodes.{nodeAt, leafOf, innerOf}

@@ -1,7 +1,7 @@
 -- `scan::bytes_numbers` meets its contract. The loop's invariant: x has the numbers of the bytes from `from` to k.
 -- The measure is how many bytes are left. Assumes nothing.
 use mathlib.Core.Path.{_≡_, ap, _∙_}
-use Prim.Native.Nat.{ℕ, _+_, _-_, _*_, _≤_, _<_}
+use Prim.Native.Nat.{ℕ, _-_, _*_, _≤_, _<_}
 use borrow.Author.Needs.{needs}
 use native.Mathlib.Omega.{arith}
 use Rattle.row.specs.Bits.{digit, bitAt}
