@@ -1,2 +1,7 @@
 pub mod Line
 pub mod Pages
+pub mod Lines
+pub mod Printed
+pub mod Outline
+pub mod Room
+pub mod Sample

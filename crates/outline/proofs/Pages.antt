@@ -1,6 +1,7 @@
 -- Texts put on a page one behind the other, and how many digits a number has.
---   adds-one, adds-none: a byte, with room for it and without; text-start, text-step, text-done: a text byte by byte
---   adds-then: one text, then another; places-are, decimal-is: the digits that io writes
+--   adds-nothing, adds-one, adds-none: no text; a byte, with room for it and without
+--   adds-then: one text, then another; adds-front: what stands at the front then; text-step, text-done: a text byte by byte
+--   places-are, decimal-is: the digits that io writes
 -- Assumes nothing.
 use mathlib.Core.Path.{_≡_, refl, sym, ap, _∙_}
 use mathlib.Core.Bool.{Bool, true, false}
@@ -13,45 +14,61 @@ use native.Mathlib.Omega.{arith}
 use borrow.Author.Tests.{ltb-true, ltb-false, leb-true, leb-false}
 use lib.Dec.{ltb, leb}
 use lib.ListN.{length, getD, take, set, length-append}
-use lib.Seq.{take-all, take-suc, take-suc-set}
+use lib.Seq.{length-take-le, take-all, take-suc, take-suc-set, take-append-seam}
 use Rattle.io.specs.Digits.{digits, Fewest}
 use Rattle.outline.specs.Page.{Adds, places, decimalOf}
 
+-- what lies past a list's first k elements does not reach the first k of what is joined to it
+take-joined : (k : ℕ) (l u : List ℕ) → take k (take k l ++ u) ≡ take k (l ++ u)
+take-joined zero l u = refl
+take-joined (suc k) [] u = refl
+take-joined (suc k) (x ∷ l) u = ap (λ (r : List ℕ). x ∷ r) (take-joined k l u)
+
+-- no text
+pub adds-nothing : (old : List ℕ) (a : ℕ) → Adds old a [] old a
+adds-nothing old a h =
+    let l : length (take a old) ≤ length old = omega (arith, length-take-le a old h) in
+    (h, sym (ap (take (length old)) (append-nil (take a old)) ∙ take-all (length old) (take a old) l))
+
 pub adds-one : (old : List ℕ) (a b : ℕ) → a < length old → Adds old a (b ∷ []) (set old a b) (a + 1)
-adds-one old a b h l = (refl, rw add-one (take-suc-set old a b h))
+adds-one old a b h k =
+    let n : length (take a old ++ (b ∷ [])) ≤ length old = omega (arith, h, length-append (take a old) (b ∷ []), length-take-le a old k) in
+    (omega (arith, h), rw add-one (take-suc-set old a b h) ∙ sym (take-all (length old) (take a old ++ (b ∷ [])) n))
 
-pub adds-none : (old new : List ℕ) (a b r : ℕ) → length old ≤ a → Adds old a (b ∷ []) new r
-adds-none old new a b r h l = absurd (omega (arith, h, l))
+-- a byte, where the page is full
+pub adds-none : (old : List ℕ) (a b : ℕ) → length old ≤ a → Adds old a (b ∷ []) old a
+adds-none old a b h k =
+    let e : take a old ≡ old = take-all a old h in
+    (k, e ∙ sym (ap (λ (x : List ℕ). take (length old) (x ++ (b ∷ []))) e ∙ take-append-seam old (b ∷ [])))
 
-pub text-start : (old : List ℕ) (a : ℕ) → a + 0 ≤ length old → (a ≡ a + 0) × (take a old ≡ take a old ++ [])
-text-start old a l = (omega arith, sym (append-nil (take a old)))
-
-pub text-step : (old page new text : List ℕ) (a i at' r : ℕ) → i < length text → length page ≡ length old
-    → (a + i ≤ length old → (at' ≡ a + i) × (take at' page ≡ take a old ++ take i text))
-    → Adds page at' (getD text i 0 ∷ []) new r
-    → a + (i + 1) ≤ length old → (r ≡ a + (i + 1)) × (take r new ≡ take a old ++ take (i + 1) text)
-text-step old page new text a i at' r h e inv put l =
-    let p = inv (omega (arith, l)) in
-    let q = put (omega (arith, l, e, p .0)) in
-    let t : take (i + 1) text ≡ take i text ++ (getD text i 0 ∷ []) = rw add-one (take-suc text i 0 h) in (
-      omega (arith, q .0, p .0),
-      q .1 ∙ ap (λ (x : List ℕ). x ++ (getD text i 0 ∷ [])) (p .1) ∙ append-assoc (take a old) (take i text) (getD text i 0 ∷ [])
-          ∙ ap (λ (x : List ℕ). take a old ++ x) (sym t),
+-- one text, then another
+pub adds-then : (old page new t u : List ℕ) (a m r : ℕ) → length page ≡ length old
+    → Adds old a t page m → Adds page m u new r → Adds old a (t ++ u) new r
+adds-then old page new t u a m r e one two h =
+    let p = one h in
+    let q = two (omega (arith, e, p .0)) in (
+      omega (arith, e, q .0),
+      q .1 ∙ ap (λ (k : ℕ). take k (take m page ++ u)) e ∙ ap (λ (x : List ℕ). take (length old) (x ++ u)) (p .1)
+          ∙ take-joined (length old) (take a old ++ t) u ∙ ap (take (length old)) (append-assoc (take a old) t u),
     )
 
-pub text-done : (old page text : List ℕ) (a i at' : ℕ) → i ≤ length text → length text ≤ i
-    → (a + i ≤ length old → (at' ≡ a + i) × (take at' page ≡ take a old ++ take i text)) → Adds old a text page at'
-text-done old page text a i at' h k inv l =
-    let e : i ≡ length text = omega (arith, h, k) in
-    let p = inv (omega (arith, e, l)) in
-    (omega (arith, e, p .0), rw (take-all i text k) at (p .1))
+-- a text at the front of a page that has room for it
+pub adds-front : (old new text : List ℕ) (r : ℕ) → length new ≡ length old → length text ≤ length old → Adds old 0 text new r
+    → (r ≡ length text) × (take r new ≡ text)
+adds-front old new text r e h one =
+    let p = one (omega arith) in
+    let t : take r new ≡ text = p .1 ∙ take-all (length old) text h in
+    (sym (length-take-le r new (omega (arith, e, p .0))) ∙ ap length t, t)
 
-pub adds-then : (old page new t u : List ℕ) (a m r : ℕ) → length page ≡ length old → Adds old a t page m → Adds page m u new r → Adds old a (t ++ u) new r
-adds-then old page new t u a m r e one two l =
-    let n = length-append t u in
-    let p = one (omega (arith, n, l)) in
-    let q = two (omega (arith, n, l, e, p .0)) in
-    (omega (arith, n, p .0, q .0), q .1 ∙ ap (λ (s : List ℕ). s ++ u) (p .1) ∙ append-assoc (take a old) t u)
+-- a text byte by byte: byte i behind the first i
+pub text-step : (old page new text : List ℕ) (a i at' r : ℕ) → i < length text → length page ≡ length old
+    → Adds old a (take i text) page at' → Adds page at' (getD text i 0 ∷ []) new r → Adds old a (take (i + 1) text) new r
+text-step old page new text a i at' r h e one two =
+    let t : take i text ++ (getD text i 0 ∷ []) ≡ take (i + 1) text = rw add-one (sym (take-suc text i 0 h)) in
+    rw t at (adds-then old page new (take i text) (getD text i 0 ∷ []) a at' r e one two)
+
+pub text-done : (old page text : List ℕ) (a i at' : ℕ) → length text ≤ i → Adds old a (take i text) page at' → Adds old a text page at'
+text-done old page text a i at' k inv = rw (take-all i text k) at inv
 
 pub places-are : (n k j f : ℕ) → Fewest 10 1 n k → 1 ≤ j → j ≤ k → k ≤ j + f → places n j f ≡ k
 unfolding places

@@ -1,2 +1,5 @@
 pub mod Input
 pub mod Page
+pub mod Levels
+pub mod Printed
+pub mod Outline

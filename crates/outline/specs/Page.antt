@@ -3,7 +3,7 @@
 use mathlib.Core.Path.{_≡_}
 use mathlib.Core.Bool.{cond}
 use mathlib.Core.List.{List, [], _∷_, _++_}
-use Prim.Native.Nat.{ℕ, zero, suc, _+_, _^_, _≤_}
+use Prim.Native.Nat.{ℕ, zero, suc, _^_, _≤_}
 use lib.Dec.{ltb}
 use lib.IntN.{ℤ, negsuc}
 use lib.ListN.{length, take}
@@ -13,9 +13,9 @@ use Rattle.family.specs.Family.{parent}
 use Rattle.search.specs.Handles.{nodeAnswer}
 use Rattle.row.specs.Answer.{Answer, at, nothing, refused}
 
--- where the page has room for it, the text stands behind its first a bytes, and r counts both
+-- the text stands behind the page's first a bytes, as far as the page goes, and r counts what stands there then; its rest is as it may be
 abbrev pub Adds : List ℕ → ℕ → List ℕ → List ℕ → ℕ → Type 0
-Adds old a text new r = a + length text ≤ length old → (r ≡ a + length text) × (take r new ≡ take a old ++ text)
+Adds old a text new r = a ≤ length old → (r ≤ length old) × (take r new ≡ take (length old) (take a old ++ text))
 
 -- the least k from j on with n below 10 ^ k, looked for f steps far
 unfoldable pub places : ℕ → ℕ → ℕ → ℕ
@@ -30,6 +30,10 @@ decimalOf n = digits 10 (places n 1 19) n
 unfoldable pub refusedText : ℕ → List ℕ
 refusedText k = (114 ∷ 101 ∷ 102 ∷ 117 ∷ 115 ∷ 101 ∷ 100 ∷ 32 ∷ []) ++ decimalOf k
 
+-- the line that a refusal prints, as `refused 7`
+abbrev pub refusalLine : ℕ → List ℕ
+refusalLine k = refusedText k ++ (10 ∷ [])
+
 -- a position, `-` for nothing; a refusal shows as such
 abbrev pub answerText : Answer → List ℕ
 answerText (at j) = decimalOf j
@@ -37,8 +41,10 @@ answerText nothing = 45 ∷ []
 answerText (refused k) = refusedText k
 
 -- a node's line: level, open, close, parent
+abbrev pub lineOf : ℕ → ℕ → Answer → Answer → List ℕ
+lineOf k v close above =
+    (decimalOf k ++ (32 ∷ [])) ++ ((decimalOf v ++ (32 ∷ [])) ++ ((answerText close ++ (32 ∷ [])) ++ (answerText above ++ (10 ∷ []))))
+
+-- the same with what the calls promise to answer for blocks of 64
 unfoldable pub nodeLine : List ℕ → ℕ → List ℤ → ℕ → ℕ → List ℕ
-nodeLine ws n s k v =
-    (decimalOf k ++ (32 ∷ []))
-    ++ ((decimalOf v ++ (32 ∷ []))
-    ++ ((answerText (fwdAnswer ws n s 64 v (negsuc 0)) ++ (32 ∷ [])) ++ (answerText (nodeAnswer parent ws n s 64 v) ++ (10 ∷ []))))
+nodeLine ws n s k v = lineOf k v (fwdAnswer ws n s 64 v (negsuc 0)) (nodeAnswer parent ws n s 64 v)

@@ -5,42 +5,20 @@
 mod input;
 mod page;
 mod print;
+mod whole;
 
 pub use input::line_end;
 use libc::STDOUT_FILENO;
-use row::Built;
-use row::Read;
 
 fn write_page(page: &[u8], at: usize) {
     let count = page::filled(page, at);
     io::write_all(STDOUT_FILENO, &page[..count]);
 }
 
-// The whole of what is printed: 2,048 nodes at most, of at most 20 bytes a line, and the first line.
-fn print_tree(words: &[u64; 64], n: usize) {
-    let mut nodes = [0i64; 381];
-    let mut page = [0u8; 65536];
-    match mmt::build(words, n, &mut nodes, 64) {
-        Built::Done => {
-            let at = print::put_tree(words, n, &nodes, &mut page);
-            write_page(&page, at);
-        }
-        Built::Refused(k) => print_refusal(k),
-    }
-}
-
-fn print_refusal(k: row::Refusal) {
-    let mut page = [0u8; 16];
-    let at = print::put_refusal(&mut page, 0, k);
-    write_page(&page, at);
-}
-
 fn answer(bytes: &[u8]) {
-    let mut words = [0u64; 64];
-    match input::read_tree(bytes, &mut words) {
-        Read::Bits(n) => print_tree(&words, n),
-        Read::Refused(k) => print_refusal(k),
-    }
+    let mut page = [0u8; 65536];
+    let at = whole::put_answer(bytes, &mut page);
+    write_page(&page, at);
 }
 
 // Reads from fd, and prints to standard output. `levels` gives standard input; the cases that are run beside it give files.

@@ -1,7 +1,8 @@
 // The lines that are printed.
 ghost use mathlib.Core.List.{[], _∷_, _++_};
 ghost use Rattle.row.specs.Answer.{numberOf, paperFound};
-ghost use Rattle.outline.specs.Page.{Adds, decimalOf, refusedText, answerText, nodeLine};
+ghost use Rattle.outline.specs.Page.{Adds, decimalOf, refusedText, refusalLine, answerText, nodeLine};
+ghost use Rattle.outline.specs.Levels.{levelLines, levelsLines, treeLines};
 use crate::page::put;
 use crate::page::put_number;
 use crate::page::put_text;
@@ -17,7 +18,7 @@ fn put_refused(page: &mut [u8], at: usize, k: Refusal) -> usize
 }
 
 pub fn put_refusal(page: &mut [u8], at: usize, k: Refusal) -> usize
-    ensures { λ r. ⌜ Adds (now (page .entry)) at (refusedText (numberOf k) ++ (10 ∷ [])) (now (page .exit)) r ⌝ }
+    ensures { λ r. ⌜ Adds (now (page .entry)) at (refusalLine (numberOf k)) (now (page .exit)) r ⌝ }
 {
     let next = put_refused(page, at, k);
     put(page, next, b'\n')
@@ -76,7 +77,9 @@ fn put_level(
     first: usize,
     page: &mut [u8],
     at: usize,
-) -> usize {
+) -> usize
+    ensures { λ r. ⌜ Adds (now (page .entry)) at (levelLines (now (words .entry)) n (now (nodes .entry)) level first) (now (page .exit)) r ⌝ }
+{
     let mut next = put_node(words, n, nodes, level, first, page, at);
     let mut v = first;
     let mut left = n;
@@ -98,7 +101,10 @@ fn put_level(
     next
 }
 
-fn put_levels(words: &[u64], n: usize, nodes: &[i64], page: &mut [u8], at: usize) -> usize {
+// The levels one after another, from 0 on. There are at most n.
+fn put_levels(words: &[u64], n: usize, nodes: &[i64], page: &mut [u8], at: usize) -> usize
+    ensures { λ r. ⌜ Adds (now (page .entry)) at (levelsLines (now (words .entry)) n (now (nodes .entry)) 0 n) (now (page .exit)) r ⌝ }
+{
     let mut next = at;
     let mut level = 0;
     while level < n {
@@ -119,7 +125,9 @@ fn put_levels(words: &[u64], n: usize, nodes: &[i64], page: &mut [u8], at: usize
 }
 
 // The first line, nodes and bits, and then the levels.
-pub fn put_tree(words: &[u64], n: usize, nodes: &[i64], page: &mut [u8]) -> usize {
+pub fn put_tree(words: &[u64], n: usize, nodes: &[i64], page: &mut [u8]) -> usize
+    ensures { λ r. ⌜ Adds (now (page .entry)) 0 (treeLines (now (words .entry)) n (now (nodes .entry))) (now (page .exit)) r ⌝ }
+{
     let bits = put_cell(page, 0, (n / 2) as u64, b' ');
     let at = put_cell(page, bits, n as u64, b'\n');
     put_levels(words, n, nodes, page, at)

@@ -14,10 +14,10 @@ same-length : tie.Need-same-length
 same-length c = search needs
 
 returns : tie.Need-returns
-returns c = adds-one _ _ _ (c .if1 .taken)
+returns c = adds-one (c .before .args .page .now) (c .before .args .at) _ (c .if1 .taken)
 
 returns-2 : tie.Need-returns-2
-returns-2 c = adds-none _ _ _ _ _ (c .if1 .left)
+returns-2 c = adds-none _ _ _ (c .if1 .left)
 
 pub put-spec : {M : Type 1} → statement M
 put-spec = tie.close (tie.spec slice-write-page add-result same-length returns returns-2)
