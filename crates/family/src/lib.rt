@@ -102,7 +102,7 @@ pub fn parent(words: &[u64], n: usize, nodes: &[i64], block: usize, v: usize) ->
 {
     match search::admit_node(words, n, nodes, block, v) {
         Gate::Shut(k) => Found::Refused(k),
-        Gate::Open => walk::walk_bwd(words, n, nodes, block, v, -1),
+        Gate::Open => walking::walk_bwd(words, n, nodes, block, v, -1),
     }
 }
 
@@ -126,8 +126,8 @@ fn last_of(words: &[u64], n: usize, nodes: &[i64], block: usize, v: usize) -> Fo
     if !is_open(words, n, v + 1) {
         return Found::Nothing;
     }
-    match walk::walk_fwd(words, n, nodes, block, v, -1) {
-        Found::At(c) => walk::walk_bwd(words, n, nodes, block, c - 1, -1),
+    match walking::walk_fwd(words, n, nodes, block, v, -1) {
+        Found::At(c) => walking::walk_bwd(words, n, nodes, block, c - 1, -1),
         Found::Nothing => Found::Nothing,
         Found::Refused(k) => Found::Refused(k),
     }
@@ -149,7 +149,7 @@ fn next_of(words: &[u64], n: usize, nodes: &[i64], block: usize, v: usize) -> Fo
     requires { ⌜ Fine (length (now words)) n (length (now nodes)) block ⌝ }
     ensures { λ a. ⌜ paperFound a ≡ nextSibling (now (words .entry)) n (walked (now (words .entry)) n block (now (nodes .entry))) v ⌝ }
 {
-    match walk::walk_fwd(words, n, nodes, block, v, -1) {
+    match walking::walk_fwd(words, n, nodes, block, v, -1) {
         Found::At(c) => handle_after(words, n, c),
         Found::Nothing => Found::Nothing,
         Found::Refused(k) => Found::Refused(k),
@@ -179,7 +179,7 @@ fn previous_of(words: &[u64], n: usize, nodes: &[i64], block: usize, v: usize) -
     if row::opens_at(words, v - 1) {
         return Found::Nothing;
     }
-    walk::walk_bwd(words, n, nodes, block, v - 1, -1)
+    walking::walk_bwd(words, n, nodes, block, v - 1, -1)
 }
 
 // Refusals 1 to 5, in their order, for the handles a and d.
@@ -208,7 +208,7 @@ fn spans(words: &[u64], n: usize, nodes: &[i64], block: usize, a: usize, d: usiz
     requires { ⌜ Fine (length (now words)) n (length (now nodes)) block ⌝ }
     ensures { λ t. ⌜ paperTold t ≡ isAncestor (now (words .entry)) n (walked (now (words .entry)) n block (now (nodes .entry))) a d ⌝ }
 {
-    match walk::walk_fwd(words, n, nodes, block, a, -1) {
+    match walking::walk_fwd(words, n, nodes, block, a, -1) {
         Found::At(c) => within(a, d, c),
         Found::Nothing => Told::Nothing,
         Found::Refused(k) => Told::Refused(k),

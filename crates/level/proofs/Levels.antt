@@ -36,7 +36,7 @@ use Rattle.mmt.specs.Layout.{nodesGate}
 use Rattle.mmt.specs.Nodes.{AsBuilt}
 use Rattle.mmt.proofs.Admitted.{gate-fine}
 use Rattle.walk.specs.Walk.{ends, walk}
-use Rattle.walk.proofs.Answers.{walk-end, walk-far}
+use Rattle.walking.proofs.Answers.{walk-end, walk-far}
 use Rattle.search.specs.Composed.{Searches, walked, defined, onward, openOf}
 use Rattle.level.specs.Levels.{levelAncestor, levelNext, levelPrev, levelLeftmost, levelRightmost, rootStart, lastStart}
 use Rattle.level.specs.Levels.{levelAnswer, rightmostAnswer, rightmostDefined}

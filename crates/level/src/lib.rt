@@ -13,13 +13,13 @@ ghost use Rattle.level.specs.Levels.{levelAncestor, levelNext, levelPrev
 ghost use Rattle.search.specs.Handles.{nodeAnswer, nodeDefined};
 ghost use Rattle.level.specs.Levels.{levelAnswer, rightmostAnswer, rightmostDefined};
 ghost use Rattle.search.specs.Searches.{WhereBuilt};
+use examine::Examined;
 use row::Found;
 use row::Gate;
 use row::Refusal;
 use search::admit_node;
-use walk::Examined;
-use walk::walk_bwd;
-use walk::walk_fwd;
+use walking::walk_bwd;
+use walking::walk_fwd;
 
 // k > n: no two positions of n bits lie so many levels apart. Tested on the u64, of which not every one is an i64.
 fn too_far(n: usize, k: u64) -> bool
@@ -111,7 +111,7 @@ fn root_start(n: usize, nodes: &[i64]) -> Found
     if n == 0 {
         return Found::Nothing;
     }
-    match walk::examine(nodes, 0) {
+    match examine::examine(nodes, 0) {
         Examined::Fit(x) => start_by(n, x.total),
         Examined::Misfit => Found::Refused(Refusal::NodesMisfit),
     }

@@ -14,7 +14,7 @@ pub fn fwd_search(words: &[u64], n: usize, nodes: &[i64], block: usize, i: usize
 {
     match mmt::admit(words.len(), n, nodes.len(), block) {
         Gate::Shut(k) => Found::Refused(k),
-        Gate::Open => walk::walk_fwd(words, n, nodes, block, i, r),
+        Gate::Open => walking::walk_fwd(words, n, nodes, block, i, r),
     }
 }
 
@@ -25,7 +25,7 @@ pub fn bwd_search(words: &[u64], n: usize, nodes: &[i64], block: usize, i: usize
 {
     match mmt::admit(words.len(), n, nodes.len(), block) {
         Gate::Shut(k) => Found::Refused(k),
-        Gate::Open => walk::walk_bwd(words, n, nodes, block, i, r),
+        Gate::Open => walking::walk_bwd(words, n, nodes, block, i, r),
     }
 }
 

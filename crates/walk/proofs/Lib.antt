@@ -6,7 +6,3 @@ pub mod Built
 pub mod Right
 pub mod Seen
 pub mod Inside
-pub mod Asked
-pub mod Paths
-pub mod Answers
-pub mod Edges

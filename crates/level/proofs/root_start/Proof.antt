@@ -4,8 +4,8 @@ use native.Mathlib.Omega.{arith}
 use borrow.Author.Needs.{needs}
 use Rattle.stretch.specs.declared.numbers.Numbers.{Numbers}
 use Rattle.mmt.specs.Nodes.{nodeAt}
-use Rattle.walk.specs.declared.ask.Examined.the-variants.{Fit}
-use Rattle.walk.proofs.Asked.{Looked, looked, fits-size, total-back}
+use Rattle.examine.specs.declared.ask.Examined.the-variants.{Fit}
+use Rattle.examine.proofs.Asked.{Looked, looked, fits-size, total-back}
 use Rattle.level.proofs.Rightmost.{start-none, start-misfit, start-root}
 use Rattle.level.proofs.root_start.Statement.{statement}
 use Rattle.level.proofs.root_start.Tie as tie
