@@ -4,7 +4,7 @@ use mathlib.Core.List.{List}
 use Prim.Native.Nat.{ℕ}
 use lib.IntN.{ℤ}
 use Rattle.row.specs.Answer.{Answer}
-use Rattle.scan.specs.OneTree.{oneTreeAnswer}
+use Rattle.tree.specs.OneTree.{oneTreeAnswer}
 use Rattle.mmt.specs.Check.{asBuiltAnswer}
 use Rattle.demands.specs.Questions as paper
 use Rattle.demands.specs.Questions.{promised}

@@ -63,7 +63,7 @@ pub fn ask(words: &[u64], n: usize, nodes: &[i64], block: usize, q: Question) ->
         Question::LevelPrev(v) => wire::found(bp::level_prev(words, n, nodes, block, v)),
         Question::LevelLeftmost(k) => wire::found(bp::level_leftmost(words, n, nodes, block, k)),
         Question::LevelRightmost(k) => wire::found(bp::level_rightmost(words, n, nodes, block, k)),
-        Question::OneTree => wire::told(scan::one_tree(words, n)),
+        Question::OneTree => wire::told(tree::one_tree(words, n)),
         Question::AsBuilt => wire::told(mmt::as_built(words, n, nodes, block)),
     }
 }

@@ -24,7 +24,7 @@ use Rattle.row.specs.Tree.{oneTree}
 use Rattle.row.specs.Way.{Way, forward, backward}
 use Rattle.row.proofs.Surplus.{Same, oneTree-same}
 use Rattle.stretch.specs.declared.numbers.Numbers.{Numbers}
-use Rattle.scan.specs.OneTree.{oneTreeAnswer}
+use Rattle.tree.specs.OneTree.{oneTreeAnswer}
 use Rattle.mmt.specs.Layout.{count, nodesGate}
 use Rattle.mmt.specs.Nodes.{nodeAt}
 use Rattle.mmt.specs.Check.{builtTest, asBuiltAnswer}

@@ -19,7 +19,7 @@ use Rattle.row.specs.Answer.{Answer, at, refused}
 use Rattle.row.specs.Gates.{wordsFor, rowGate, through, kept}
 use Rattle.row.specs.Tree.{oneTree}
 use Rattle.text.specs.Text.{allParentheses, wordsOf, textGate, textWords}
-use Rattle.scan.specs.OneTree.{oneTreeAnswer}
+use Rattle.tree.specs.OneTree.{oneTreeAnswer}
 use Rattle.mmt.specs.Layout.{width, count, nodesGate}
 use Rattle.mmt.specs.Nodes.{written}
 use Rattle.mmt.specs.Build.{builtNodes}

@@ -21,7 +21,7 @@ use Rattle.row.specs.Way.{forward, backward}
 use Rattle.row.proofs.Gates.{row-open}
 use Rattle.row.proofs.Meaning.{IsFwd, IsBwd, fwd-is, bwd-is}
 use Rattle.row.proofs.Tree.{oneTree-true, oneTree-yes}
-use Rattle.scan.specs.OneTree.{oneTreeAnswer}
+use Rattle.tree.specs.OneTree.{oneTreeAnswer}
 use Rattle.mmt.specs.Layout.{width, count, nodesGate, Fine}
 use Rattle.mmt.specs.Nodes.{AsBuilt, written}
 use Rattle.mmt.specs.Build.{builtNodes}

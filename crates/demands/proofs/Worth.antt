@@ -5,7 +5,7 @@
 use mathlib.Core.Path.{sym, _∙_}
 use Rattle.row.specs.Answer.{numberOf}
 use Rattle.text.specs.Text.{textWords}
-use Rattle.scan.specs.OneTree.{oneTreeAnswer}
+use Rattle.tree.specs.OneTree.{oneTreeAnswer}
 use Rattle.mmt.specs.Build.{builtNodes}
 use Rattle.mmt.specs.Check.{asBuiltAnswer}
 use Rattle.listing.specs.Listing.{made, stepped}

@@ -14,7 +14,7 @@ use lib.ListN.{length}
 use Rattle.row.specs.Answer.{Answer, at, nothing, refused}
 use Rattle.row.specs.Gates.{through}
 use Rattle.text.specs.Text.{textGate, textWords}
-use Rattle.scan.specs.OneTree.{oneTreeAnswer}
+use Rattle.tree.specs.OneTree.{oneTreeAnswer}
 use Rattle.mmt.specs.Layout.{width, count, nodesGate, Fine}
 use Rattle.mmt.specs.Build.{builtNodes}
 use Rattle.mmt.specs.Check.{asBuiltAnswer}

@@ -12,7 +12,7 @@ use lib.ListN.{length, getD, take}
 use denote.Ref.{RefT, now}
 use Rattle.row.specs.Answer.{at}
 use Rattle.row.specs.Bits.{bitAt}
-use Rattle.scan.specs.OneTree.{oneTreeAnswer}
+use Rattle.tree.specs.OneTree.{oneTreeAnswer}
 use Rattle.mmt.specs.Layout.{width, count}
 use Rattle.mmt.specs.Build.{builtNodes}
 use Rattle.mmt.specs.Check.{asBuiltAnswer}

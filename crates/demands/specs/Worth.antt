@@ -13,7 +13,7 @@ use denote.Ref.{RefT}
 use Rattle.row.specs.declared.refusal.Refusal.{Refusal}
 use Rattle.row.specs.Answer.{numberOf, paperFound, paperTold, paperBuilt, paperRead}
 use Rattle.text.specs.Text.{textWords}
-use Rattle.scan.specs.OneTree.{oneTreeAnswer}
+use Rattle.tree.specs.OneTree.{oneTreeAnswer}
 use Rattle.mmt.specs.Build.{builtNodes}
 use Rattle.mmt.specs.Check.{asBuiltAnswer}
 use Rattle.listing.specs.Listing.{Listing, made, stepped}

@@ -47,7 +47,7 @@ fn say_words(words: &[u64]) {
 fn tree(word: u64, n: usize) {
     let words = [word; 1];
     say(b"bits", n as u64);
-    match scan::one_tree(&words, n) {
+    match tree::one_tree(&words, n) {
         Told::Yes => {
             io::write_all(STDOUT_FILENO, b"  one tree\n");
         }

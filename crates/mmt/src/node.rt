@@ -47,7 +47,7 @@ pub fn leaf_numbers(t: &Lookup, words: &[u64], n: usize, block: usize, b: usize)
     ensures { λ x. ⌜ x ≡ leafOf (now (words .entry)) n block b ⌝ }
 {
     let from = b * block;
-    scan::stretch_numbers(t, words, from, row::earlier(n, from + block))
+    measure::stretch_numbers(t, words, from, row::earlier(n, from + block))
 }
 
 // The numbers of inner node k, from its children: joined, the left alone, or none.

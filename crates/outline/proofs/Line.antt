@@ -20,7 +20,7 @@ use Rattle.row.specs.Answer.{at, nothing, refused}
 use Rattle.row.specs.Gates.{rowGate, through}
 use Rattle.row.specs.Tree.{oneTree}
 use Rattle.row.proofs.Gates.{row-open}
-use Rattle.scan.specs.OneTree.{oneTreeAnswer}
+use Rattle.tree.specs.OneTree.{oneTreeAnswer}
 use Rattle.text.specs.Text.{allParentheses, textGate, textWords}
 use Rattle.text.proofs.Text.{text-other, text-row}
 use Rattle.outline.specs.Input.{lineEnd, line, lineAnswer, lineWords, treeAnswer, inputAnswer}

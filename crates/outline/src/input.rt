@@ -40,7 +40,7 @@ fn admit_tree(words: &[u64; 64], n: usize) -> Read
     ensures { λ a. ⌜ paperRead a ≡ treeAnswer (now (words .entry)) n ⌝ }
     ensures { λ a. ⌜ 64 ≡ length (now (words .entry)) ⌝ }
 {
-    match scan::one_tree(words, n) {
+    match tree::one_tree(words, n) {
         Told::Yes => Read::Bits(n),
         Told::Refused(k) => Read::Refused(k),
         Told::No => Read::Refused(Refusal::NotOneTree),

@@ -1,7 +1,7 @@
 // The tests and the reader of text over byte slices, for rows of up to 4,096 bits.
 // Each test is one question, and promises what the call that answers it promises of the words and numbers that the bytes hold.
 ghost use mathlib.Core.Path.{_≡_};
-ghost use Rattle.scan.specs.OneTree.{oneTreeAnswer};
+ghost use Rattle.tree.specs.OneTree.{oneTreeAnswer};
 ghost use Rattle.mmt.specs.Check.{asBuiltAnswer};
 ghost use Rattle.wire.specs.Answer.{wireOf};
 ghost use Rattle.wire.specs.Limit.{wireBits};

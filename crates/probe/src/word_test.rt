@@ -5,7 +5,7 @@ ghost use lib.ListN.{length};
 ghost use Rattle.row.specs.Answer.{at};
 ghost use Rattle.row.specs.Gates.{through};
 ghost use Rattle.text.specs.Text.{textGate, textWords};
-ghost use Rattle.scan.specs.OneTree.{oneTreeAnswer};
+ghost use Rattle.tree.specs.OneTree.{oneTreeAnswer};
 ghost use Rattle.mmt.specs.Check.{asBuiltAnswer};
 ghost use Rattle.wire.specs.Answer.{wireOf};
 
@@ -14,7 +14,7 @@ ghost use Rattle.wire.specs.Answer.{wireOf};
 pub extern "C" fn bpw_one_tree(words: &[u64], bits: u64) -> i64
     ensures { λ a. ⌜ a ≡ wireOf (oneTreeAnswer (now (words .entry)) bits) ⌝ }
 {
-    wire::told(scan::one_tree(words, bits as usize))
+    wire::told(tree::one_tree(words, bits as usize))
 }
 
 // Whether the nodes are those that a build writes: 1 or 0.

@@ -1,5 +1,2 @@
 pub mod Shifted
 pub mod Pieces
-pub mod Totals
-pub mod Single
-pub mod Decided

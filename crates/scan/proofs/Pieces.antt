@@ -1,17 +1,14 @@
 -- A scan piece by piece, for either way: a row is read by words, a word by bytes.
---   hit-within: what a scan hits is one of the bits that it reads
 --   Reading, reading-start, reading-done: where a scan stands that is read in parts
 --   Part, part-hit, part-on: the next part is read, which hits, or leaves something to go on with
---   Lies, edge-lies, word-scan, byte-scan: bits of a word are bits of the row, and those of a byte are bits of its word
+--   byte-scan: bits of a byte are bits of its word
 --   Piece, piece-hit, piece-on: the next part is a word or a byte, and one turn of a loop reads it
 --   far-fits, far-left: a word that is passed over at once
 -- Assumes nothing.
 use mathlib.Core.Path.{_≡_, refl, sym, ap, _∙_}
-use mathlib.Core.List.{List}
-use Prim.Native.Nat.{ℕ, _+_, _-_, _*_, _/_, _%_, _^_, _≤_, _<_}
+use Prim.Native.Nat.{ℕ, _+_, _*_, _/_, _%_, _^_, _≤_, _<_}
 use native.Mathlib.Omega.{arith}
 use native.Mathlib.Nat.{zero-add, add-zero}
-use lib.ListN.{getD}
 use lib.IntN.{ℤ}
 use mir.Syntax.{w64}
 use mir.Val.{SFits, toZ, ofZ}
@@ -19,19 +16,17 @@ use mir.ValLaws.{toZ-ofZ}
 use Rattle.ints.specs.Sides.{size}
 use Rattle.ints.proofs.Linear.{plus-size, minus-size}
 use Rattle.ints.proofs.Shapes.{zsum}
-use Rattle.row.specs.Bits.{digit, bitAt}
+use Rattle.row.specs.Bits.{digit}
 use Rattle.row.specs.Excess.{excess}
 use Rattle.row.specs.Way.{Way, forward, backward}
-use Rattle.row.proofs.Digits.{word-bits, byte-of}
+use Rattle.row.proofs.Digits.{byte-of}
 use Rattle.row.proofs.Excess.{excess-ext, excess-size}
 use Rattle.stretch.specs.declared.bits.Scanned.{Scanned}
 use Rattle.stretch.specs.declared.bits.Scanned.the-variants.{Hit, Left}
 use Rattle.stretch.specs.Scan.{place, passed, scan}
 use Rattle.stretch.proofs.Parts.{onward, thenAt, scan-split, moved, scan-shift, scan-size}
-use Rattle.stretch.proofs.Meets.{scan-nearest}
 use Rattle.stretch.proofs.Covers.{skip-far}
 use Rattle.stretch.proofs.Steps.{scan-end}
-use Rattle.scan.specs.Parts.{InWord}
 
 -- ---- part by part
 
@@ -47,9 +42,6 @@ pub record Part (w : Way) (m j p x d i : ℕ) : Type 0 where
   pub next : i ≡ thenAt w p j
 
 module _ (w : Way) (f : ℕ → ℕ) where
-  pub hit-within : (c a : ℕ) (r : ℤ) {k : ℕ} → Hit k ≡ scan w f c a r → k < a + c
-  hit-within c a r e = (rw (sym e) at (scan-nearest f _ w c a r refl)) .0 .1
-
   pub reading-start : (c a : ℕ) (r : ℤ) → Reading w f c a r c a r
   reading-start c a r = record { same = refl; near = omega arith }
 
@@ -67,22 +59,9 @@ module _ {w : Way} {f : ℕ → ℕ} {c a : ℕ} {r : ℤ} {m j : ℕ} {q : ℤ}
     pub part-on : {l : ℤ} → y ≡ Left l → SFits w64 l → Reading w f c a r d i (toZ w64 (ofZ w64 l))
     part-on {l} g h = rw (toZ-ofZ w64 l h) (record { same = rw g at split; near = omega (arith, s .near, t .count, scan-size w f p x q l (sym e ∙ g)) })
 
--- ---- bits of a word and of a byte
-
--- the c bits of a row from a on are the p bits of word i from b on
-pub record Lies (c a i p b : ℕ) : Type 0 where
-  pub count : c ≡ p
-  pub begin : a ≡ 64 * i + b
-  pub inside : b + p ≤ 64
-
-pub edge-lies : {n from to : ℕ} → InWord n from to → Lies (to - from) from (from / 64) ((to - 64 * (from / 64)) - from % 64) (from % 64)
-edge-lies h = record { count = omega arith; begin = omega arith; inside = omega arith }
+-- ---- bits of a byte
 
 module _ (w : Way) where
-  pub word-scan : (ws : List ℕ) (r : ℤ) {c a i p b : ℕ} {y : Scanned} → Lies c a i p b → y ≡ scan w (digit (getD ws i 0)) p b r → moved (64 * i) y ≡ scan w (bitAt ws) c a r
-  word-scan ws r {i = i} {p = p} {b = b} h e =
-      ap (moved (64 * i)) e ∙ rw (h .count, h .begin) (sym (scan-shift w (bitAt ws) (digit (getD ws i 0)) (64 * i) p b r (λ k l m. sym (word-bits ws i k (omega (arith, h .inside))))))
-
   pub byte-scan : (v k : ℕ) (r : ℤ) {b : ℕ} {y : Scanned} → b ≡ v / 2 ^ (8 * k) % 256 → y ≡ scan w (digit b) 8 0 r → moved (8 * k) y ≡ scan w (digit v) 8 (8 * k) r
   byte-scan v k r {b} h e =
       ap (moved (8 * k)) e

@@ -115,7 +115,7 @@ pub fn walk_bwd(words: &[u64], n: usize, nodes: &[i64], block: usize, i: usize, 
         return Found::Nothing;
     }
     let edge = i / 8 * 8;
-    match scan::edge_bwd(words, edge, i, r) {
+    match edge::edge_bwd(words, edge, i, r) {
         Scanned::Hit(j) => Found::At(j),
         Scanned::Left(q) => past_edge_bwd(words, n, nodes, block, (i - 1) / block, edge, q),
     }

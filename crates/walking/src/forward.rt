@@ -116,7 +116,7 @@ pub fn walk_fwd(words: &[u64], n: usize, nodes: &[i64], block: usize, i: usize, 
         return Found::Nothing;
     }
     let edge = row::earlier(n, (from + 7) / 8 * 8);
-    match scan::edge_fwd(words, from, edge, r) {
+    match edge::edge_fwd(words, from, edge, r) {
         Scanned::Hit(j) => Found::At(j),
         Scanned::Left(q) => past_edge_fwd(words, n, nodes, block, from / block, edge, q),
     }

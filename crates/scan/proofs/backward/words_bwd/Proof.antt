@@ -9,7 +9,8 @@ use mir.Val.{toZ}
 use mir.ValLaws.{toZ-ofZ}
 use Rattle.row.specs.Bits.{bitAt}
 use Rattle.row.specs.Way.{backward}
-use Rattle.scan.proofs.Pieces.{hit-within, Reading, Part, Lies, Piece, reading-start, reading-done, piece-hit, piece-on, word-scan}
+use Rattle.edge.proofs.Words.{hit-within, Lies, word-scan}
+use Rattle.scan.proofs.Pieces.{Reading, Part, Piece, reading-start, reading-done, piece-hit, piece-on}
 use Rattle.scan.proofs.backward.words_bwd.Statement.{statement}
 use Rattle.scan.proofs.backward.words_bwd.Tie as tie
 
