@@ -1,5 +1,3 @@
-pub mod Line
-pub mod Pages
 pub mod Lines
 pub mod Printed
 pub mod Outline

@@ -12,9 +12,10 @@ use lib.ListN.{length}
 use Rattle.row.specs.Answer.{Answer, at, nothing, refused}
 use Rattle.search.specs.Handles.{nodeAnswer}
 use Rattle.level.specs.Levels.{levelNext, levelLeftmost, levelAnswer}
-use Rattle.outline.specs.Page.{Adds, decimalOf, refusalLine, nodeLine}
+use Rattle.page.specs.Page.{Adds, decimalOf}
+use Rattle.page.proofs.Pages.{adds-nothing, adds-then}
+use Rattle.outline.specs.Shown.{refusalLine, nodeLine}
 use Rattle.outline.specs.Levels.{linesFor, nextLines, levelLines, levelsLines, treeLines}
-use Rattle.outline.proofs.Pages.{adds-nothing, adds-then}
 
 -- the page is as long as the old one, and once the rest stands behind its first m bytes, the whole stands behind the old one's first a
 pub record Leads (old : List ℕ) (a : ℕ) (whole page : List ℕ) (m : ℕ) (rest : List ℕ) : Type 0 where

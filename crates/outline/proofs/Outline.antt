@@ -22,7 +22,8 @@ use Rattle.demands.proofs.Turns.{Stands, at-depth, not-depth, opens-low}
 use Rattle.demands.proofs.Closing.{closing, E-zero}
 use Rattle.demands.proofs.Children.{kid}
 use Rattle.demands.proofs.Parents.{parent-of}
-use Rattle.outline.specs.Page.{decimalOf, lineOf, nodeLine}
+use Rattle.page.specs.Page.{decimalOf}
+use Rattle.outline.specs.Shown.{lineOf, nodeLine}
 use Rattle.outline.specs.Levels.{nextLines, levelLines, levelsLines, treeLines}
 use Rattle.outline.specs.Outline.{linesOf, definedLine, definedLevels, definedLines}
 

@@ -23,12 +23,12 @@ use Rattle.mmt.proofs.Powers.{inner-small}
 use Rattle.mmt.proofs.Admitted.{fine-gate}
 use Rattle.demands.proofs.Second.{second}
 use Rattle.demands.proofs.Third.{third}
-use Rattle.outline.specs.Input.{lineEnd, line, inputAnswer, lineWords}
-use Rattle.outline.specs.Page.{refusedText, refusalLine}
+use Rattle.line.specs.Input.{lineEnd, line, inputAnswer, lineWords}
+use Rattle.line.proofs.Line.{words-read}
+use Rattle.outline.specs.Shown.{refusedText, refusalLine}
 use Rattle.outline.specs.Levels.{linesFor, treeLines}
 use Rattle.outline.specs.Outline.{definedLines}
 use Rattle.outline.specs.Printed.{blankWords, printed}
-use Rattle.outline.proofs.Line.{words-read}
 use Rattle.outline.proofs.Outline.{tree-is}
 use Rattle.outline.proofs.Room.{refusal-fits, page-fits}
 

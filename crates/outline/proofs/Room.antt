@@ -29,7 +29,8 @@ use Rattle.demands.specs.Listing.{those}
 use Rattle.demands.specs.Handles.{atDepth, level}
 use Rattle.demands.proofs.Equal.{defined-may}
 use Rattle.demands.proofs.Turns.{stands, not-depth}
-use Rattle.outline.specs.Page.{places, decimalOf, refusedText, answerText}
+use Rattle.page.specs.Page.{places, decimalOf}
+use Rattle.outline.specs.Shown.{refusedText, answerText}
 use Rattle.outline.specs.Outline.{linesOf, definedLine, definedLevels, definedLines}
 
 -- ---- numbers

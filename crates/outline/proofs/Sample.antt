@@ -14,8 +14,9 @@ use Rattle.search.specs.Searches.{outward}
 use Rattle.family.specs.Family.{parent}
 use Rattle.demands.specs.Listing.{those}
 use Rattle.demands.specs.Handles.{atDepth}
-use Rattle.outline.specs.Input.{lineEnd, lineWords, inputAnswer}
-use Rattle.outline.specs.Page.{places, decimalOf, refusedText}
+use Rattle.page.specs.Page.{places, decimalOf}
+use Rattle.line.specs.Input.{lineEnd, lineWords, inputAnswer}
+use Rattle.outline.specs.Shown.{refusedText}
 use Rattle.outline.specs.Outline.{definedLine, definedLevels, definedLines}
 use Rattle.outline.specs.Printed.{printed}
 

@@ -6,7 +6,8 @@ use lib.IntN.{ℤ}
 use Rattle.row.specs.Answer.{Answer, at, nothing, refused}
 use Rattle.search.specs.Handles.{nodeAnswer}
 use Rattle.level.specs.Levels.{levelNext, levelLeftmost, levelAnswer}
-use Rattle.outline.specs.Page.{decimalOf, refusalLine, nodeLine}
+use Rattle.page.specs.Page.{decimalOf}
+use Rattle.outline.specs.Shown.{refusalLine, nodeLine}
 
 -- the lines for a node that is answered; none for nothing; a refusal shows as such
 abbrev pub linesFor : Answer → (ℕ → List ℕ) → List ℕ

@@ -1,5 +1,4 @@
-pub mod Input
-pub mod Page
+pub mod Shown
 pub mod Levels
 pub mod Printed
 pub mod Outline

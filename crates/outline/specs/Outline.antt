@@ -4,7 +4,8 @@ use mathlib.Core.List.{List, [], _∷_, _++_}
 use Prim.Native.Nat.{ℕ, zero, suc, _/_}
 use Rattle.demands.specs.Questions.{definition, closeOf, parent}
 use Rattle.demands.specs.Handles.{level}
-use Rattle.outline.specs.Page.{decimalOf, lineOf}
+use Rattle.page.specs.Page.{decimalOf}
+use Rattle.outline.specs.Shown.{lineOf}
 
 -- the lines of the nodes in a list, one after another
 abbrev pub linesOf : (ℕ → List ℕ) → List ℕ → List ℕ

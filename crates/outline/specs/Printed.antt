@@ -3,7 +3,7 @@
 use mathlib.Core.List.{List}
 use Prim.Native.Nat.{ℕ}
 use lib.ListN.{replicate}
-use Rattle.outline.specs.Input.{inputAnswer, lineWords}
+use Rattle.line.specs.Input.{inputAnswer, lineWords}
 use Rattle.outline.specs.Levels.{linesFor}
 use Rattle.outline.specs.Outline.{definedLines}
 

@@ -1,13 +1,11 @@
-// The program `levels` but for its main: it reads one tree as parentheses and prints its nodes, level by level from the left.
+// The program `levels` but for its main: it reads one tree as parentheses and prints its nodes, level by level from the left. The line
+// is read by the crate `line` and the bytes are put on a page by the crate `page`; here is what stands on it.
 //
 // The input is read once, up to its end or until 4,097 bytes are there. What stands before the first newline is the text.
 // A refusal prints one line: 2 for over 4,096 parentheses, 6 for a byte that is none, 7 for a row that is not one tree.
-mod input;
-mod page;
 mod print;
 mod whole;
 
-pub use input::line_end;
 use libc::STDOUT_FILENO;
 
 fn write_page(page: &[u8], at: usize) {

@@ -1,11 +1,12 @@
 // The lines that are printed.
 ghost use mathlib.Core.List.{[], _∷_, _++_};
 ghost use Rattle.row.specs.Answer.{numberOf, paperFound};
-ghost use Rattle.outline.specs.Page.{Adds, decimalOf, refusedText, refusalLine, answerText, nodeLine};
+ghost use Rattle.page.specs.Page.{Adds, decimalOf};
+ghost use Rattle.outline.specs.Shown.{refusedText, refusalLine, answerText, nodeLine};
 ghost use Rattle.outline.specs.Levels.{levelLines, levelsLines, treeLines};
-use crate::page::put;
-use crate::page::put_number;
-use crate::page::put_text;
+use page::put;
+use page::put_number;
+use page::put_text;
 use row::Found;
 use row::Refusal;
 

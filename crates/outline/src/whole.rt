@@ -3,10 +3,9 @@ ghost use mathlib.Core.Path.{_≡_};
 ghost use Prim.Native.Nat.{_≤_};
 ghost use lib.ListN.{length, take};
 ghost use Rattle.row.specs.Tree.{OneTree};
-ghost use Rattle.outline.specs.Page.{Adds};
+ghost use Rattle.page.specs.Page.{Adds};
 ghost use Rattle.outline.specs.Printed.{printed};
 ghost use Rattle.outline.specs.Outline.{definedLines};
-use crate::input;
 use crate::print::put_refusal;
 use crate::print::put_tree;
 use row::Built;
@@ -32,7 +31,7 @@ pub fn put_answer(bytes: &[u8], page: &mut [u8]) -> usize
     ensures { λ r. ⌜ (r ≡ length (printed (now (bytes .entry)))) × (take r (now (page .exit)) ≡ printed (now (bytes .entry))) ⌝ }
 {
     let mut words = [0u64; 64];
-    match input::read_tree(bytes, &mut words) {
+    match line::read_tree(bytes, &mut words) {
         Read::Bits(n) => put_built(&words, n, page),
         Read::Refused(k) => put_refusal(page, 0, k),
     }

@@ -220,7 +220,7 @@ fn rows(bytes: &[u8]) {
     let mut at = 0;
     while at < bytes.len() {
         let rest = &bytes[at..];
-        let end = outline::line_end(rest);
+        let end = line::line_end(rest);
         replay(&rest[..end]);
         at += end + 1;
     }

@@ -2,10 +2,10 @@
 use mathlib.Core.Path.{_≡_}
 use mathlib.Core.List.{[], _∷_}
 use lib.ListN.{length}
-use Rattle.outline.specs.Page.{decimalOf}
-use Rattle.outline.proofs.Pages.{adds-then}
 use native.Mathlib.Omega.{arith}
 use borrow.Author.Needs.{needs}
+use Rattle.page.specs.Page.{decimalOf}
+use Rattle.page.proofs.Pages.{adds-then}
 use Rattle.outline.proofs.print.put_cell.Statement.{statement}
 use Rattle.outline.proofs.print.put_cell.Tie as tie
 

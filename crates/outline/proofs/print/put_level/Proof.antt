@@ -6,7 +6,7 @@ use mathlib.Core.List.{List}
 use Prim.Native.Nat.{ℕ}
 use lib.ListN.{length}
 use Rattle.row.specs.Answer.{paperFound}
-use Rattle.outline.specs.Page.{Adds}
+use Rattle.page.specs.Page.{Adds}
 use Rattle.outline.specs.Levels.{nextLines, levelLines}
 use Rattle.outline.proofs.Lines.{Leads, leads-all, nothing-end, refused-end, level-whole, next-asked, next-found, next-spent}
 use native.Mathlib.Omega.{arith}

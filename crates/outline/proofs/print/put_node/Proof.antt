@@ -6,8 +6,9 @@ use lib.ListN.{length}
 use Rattle.family.specs.Family.{parent}
 use Rattle.search.specs.Handles.{nodeAnswer}
 use Rattle.search.specs.Searches.{fwdAnswer}
-use Rattle.outline.specs.Page.{decimalOf, answerText, nodeLine}
-use Rattle.outline.proofs.Pages.{adds-then}
+use Rattle.page.specs.Page.{decimalOf}
+use Rattle.page.proofs.Pages.{adds-then}
+use Rattle.outline.specs.Shown.{answerText, nodeLine}
 use native.Mathlib.Omega.{arith}
 use borrow.Author.Needs.{needs}
 use Rattle.outline.proofs.print.put_node.Statement.{statement}

@@ -3,8 +3,8 @@ use mathlib.Core.Path.{_≡_, sym, ap, _∙_}
 use Prim.Native.Nat.{_≤_}
 use lib.ListN.{length}
 use Rattle.row.specs.Answer.{paperRead}
+use Rattle.page.proofs.Pages.{adds-front}
 use Rattle.outline.specs.Printed.{blankWords, printed}
-use Rattle.outline.proofs.Pages.{adds-front}
 use Rattle.outline.proofs.Printed.{input-taken, printed-tree, printed-refused, printed-fits}
 use native.Mathlib.Omega.{arith}
 use borrow.Author.Needs.{needs}
