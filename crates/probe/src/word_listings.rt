@@ -6,34 +6,6 @@ ghost use mathlib.Core.Bool.{true, false};
 ghost use lib.ListN.{length};
 ghost use Rattle.listing.specs.Whole.{countOf, leftOf};
 ghost use Rattle.wire.specs.Answer.{wireOf};
-use listing::Listed;
-
-// The children of a node, either way: how many answers are written.
-fn list(
-    words: &[u64],
-    bits: u64,
-    nodes: &[i64],
-    block: u64,
-    rising: bool,
-    node: u64,
-    out: &mut [i64],
-) -> i64
-    ensures { λ a. ⌜ a ≡ wireOf (countOf rising (now (words .entry)) bits (now (nodes .entry)) block node (length (now (out .entry)))) ⌝ }
-    ensures { λ a. ⌜ now (out .exit) ≡ leftOf rising (now (words .entry)) bits (now (nodes .entry)) block node (now (out .entry)) ⌝ }
-{
-    match listing::list(
-        words,
-        bits as usize,
-        nodes,
-        block as usize,
-        rising,
-        node as usize,
-        out,
-    ) {
-        Listed::Count(c) => c as i64,
-        Listed::Refused(k) => wire::refused(k),
-    }
-}
 
 // The children of a node, from the first to the last.
 #[no_mangle]
@@ -48,7 +20,7 @@ pub extern "C" fn bpw_children(
     ensures { λ a. ⌜ a ≡ wireOf (countOf true (now (words .entry)) bits (now (nodes .entry)) block node (length (now (out .entry)))) ⌝ }
     ensures { λ a. ⌜ now (out .exit) ≡ leftOf true (now (words .entry)) bits (now (nodes .entry)) block node (now (out .entry)) ⌝ }
 {
-    list(words, bits, nodes, block, true, node, out)
+    lists::to_numbers(words, bits, nodes, block, true, node, out)
 }
 
 // The children of a node, from the last to the first.
@@ -64,5 +36,5 @@ pub extern "C" fn bpw_rev_children(
     ensures { λ a. ⌜ a ≡ wireOf (countOf false (now (words .entry)) bits (now (nodes .entry)) block node (length (now (out .entry)))) ⌝ }
     ensures { λ a. ⌜ now (out .exit) ≡ leftOf false (now (words .entry)) bits (now (nodes .entry)) block node (now (out .entry)) ⌝ }
 {
-    list(words, bits, nodes, block, false, node, out)
+    lists::to_numbers(words, bits, nodes, block, false, node, out)
 }

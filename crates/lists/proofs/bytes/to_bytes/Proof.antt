@@ -1,4 +1,4 @@
--- `probe::listings::list` meets its contract: what it decodes is listed. Assumes nothing.
+-- `lists::to_bytes` meets its contract: what it decodes is listed. Assumes nothing.
 use mathlib.Core.Path.{refl, ap, _∙_}
 use Prim.Native.Nat.{_*_, _/_}
 use borrow.Author.Needs.{needs}
@@ -9,9 +9,9 @@ use Rattle.listing.specs.Whole.{countOf}
 use Rattle.wire.specs.Answer.{wireOf}
 use Rattle.wire.specs.Bytes.{wordAt, numberAt, wordsIn, numbersIn}
 use Rattle.wire.proofs.Lent.{lent, same}
-use Rattle.probe.specs.Listings.{listedBytes}
-use Rattle.probe.proofs.byte_listings.list.Statement.{statement}
-use Rattle.probe.proofs.byte_listings.list.Tie as tie
+use Rattle.lists.specs.Listings.{listedBytes}
+use Rattle.lists.proofs.bytes.to_bytes.Statement.{statement}
+use Rattle.lists.proofs.bytes.to_bytes.Tie as tie
 
 slice-aggregate-take-words : tie.Need-slice-aggregate-take-words
 slice-aggregate-take-words c = search needs
@@ -63,8 +63,8 @@ returns c =
       l .ensures .1 ∙ same (λ ws n s. listedBytes (a .rising) ws n s (a .block) (a .node) (length o / 8) o) p refl q,
     )
 
-pub list-spec : {M : Type 1} → statement M
-list-spec =
+pub to-bytes-spec : {M : Type 1} → statement M
+to-bytes-spec =
     tie.close
     (tie.spec
     slice-aggregate-take-words

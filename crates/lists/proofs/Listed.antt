@@ -20,7 +20,7 @@ use Rattle.listing.proofs.Enough.{count-small, room-cut}
 use Rattle.wire.specs.Answer.{wireOf}
 use Rattle.wire.specs.Limit.{wireBits}
 use Rattle.wire.specs.Bytes.{numbersOver}
-use Rattle.probe.specs.Listings.{listedBytes}
+use Rattle.lists.specs.Listings.{listedBytes}
 
 -- a bit count that crosses has room for all its answers, or is refused
 room-enough : (bits : ℕ) → wireBits bits ≤ 4294967296 → wireBits bits + 2 ≤ 4098

@@ -1,4 +1,4 @@
--- `probe::word_listings::list` meets its contract: it is the one call, and its count or its refusal crosses. Assumes nothing.
+-- `lists::to_numbers` meets its contract: it is the one call, and its count or its refusal crosses. Assumes nothing.
 use mathlib.Core.Path.{_≡_, sym, ap, _∙_}
 use Prim.Native.Nat.{_<_}
 use native.Mathlib.Omega.{arith}
@@ -8,9 +8,9 @@ use mir.ValLaws.{toZ-ofZ, toZ-pos}
 use Rattle.row.specs.Answer.{at}
 use Rattle.listing.specs.Whole.{paperListed}
 use Rattle.wire.specs.Answer.{wireOf}
-use Rattle.probe.proofs.Listed.{count-low}
-use Rattle.probe.proofs.word_listings.list.Statement.{statement}
-use Rattle.probe.proofs.word_listings.list.Tie as tie
+use Rattle.lists.proofs.Listed.{count-low}
+use Rattle.lists.proofs.numbers.to_numbers.Statement.{statement}
+use Rattle.lists.proofs.numbers.to_numbers.Tie as tie
 
 -- what is counted
 counted : (c : tie.After-known-told) → at (c .before .c .given .0 .0) ≡ paperListed (c .before .before .before .before .list .result)
@@ -52,8 +52,8 @@ returns-2 c =
     let k = sym (ap paperListed (c .before .before .k .given .1)) ∙ e .0 in
     (toZ-ofZ w64 _ (record { sfits = c .refused .ok }) ∙ c .refused .ensures ∙ ap wireOf k, e .1)
 
-pub list-spec : {M : Type 1} → statement M
-list-spec =
+pub to-numbers-spec : {M : Type 1} → statement M
+to-numbers-spec =
     tie.close
     (tie.spec
     list-requires

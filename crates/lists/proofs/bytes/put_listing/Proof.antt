@@ -1,4 +1,4 @@
--- `probe::listings::put_listing` meets its contract: a refusal writes nothing, a listing that is made writes its answers. Assumes nothing.
+-- `lists::put_listing` meets its contract: a refusal writes nothing, a listing that is made writes its answers. Assumes nothing.
 use mathlib.Core.Path.{_≡_, sym, ap, _∙_}
 use Prim.Native.Nat.{_≤_, _<_}
 use native.Mathlib.Omega.{arith}
@@ -11,10 +11,10 @@ use Rattle.row.specs.Answer.{at}
 use Rattle.listing.specs.Whole.{paperListed}
 use Rattle.wire.specs.Answer.{wireOf}
 use Rattle.wire.specs.Bytes.{numbersOver}
-use Rattle.probe.specs.Listings.{listedBytes}
-use Rattle.probe.proofs.Listed.{count-low, bytes-shut, bytes-open}
-use Rattle.probe.proofs.byte_listings.put_listing.Statement.{statement}
-use Rattle.probe.proofs.byte_listings.put_listing.Tie as tie
+use Rattle.lists.specs.Listings.{listedBytes}
+use Rattle.lists.proofs.Listed.{count-low, bytes-shut, bytes-open}
+use Rattle.lists.proofs.bytes.put_listing.Statement.{statement}
+use Rattle.lists.proofs.bytes.put_listing.Tie as tie
 
 -- what is counted
 counted : (c : tie.After-c) → at (c .c .given .0 .0) ≡ paperListed (c .before .before .before .list .result)

@@ -1,4 +1,4 @@
--- `probe::listings::list_decoded` meets its contract: the array has room for every answer there can be. Assumes nothing.
+-- `lists::list_decoded` meets its contract: the array has room for every answer there can be. Assumes nothing.
 use mathlib.Core.Path.{sym, ap, _∙_}
 use Prim.Native.Nat.{_≤_}
 use native.Mathlib.Omega.{arith}
@@ -7,9 +7,9 @@ use lib.Seq.{length-take-le}
 use mir.Syntax.{w64}
 use mir.ValLaws.{toZ-ofZ}
 use Rattle.wire.specs.Answer.{wireOf}
-use Rattle.probe.proofs.Listed.{count-cut, bytes-cut}
-use Rattle.probe.proofs.byte_listings.list_decoded.Statement.{statement}
-use Rattle.probe.proofs.byte_listings.list_decoded.Tie as tie
+use Rattle.lists.proofs.Listed.{count-cut, bytes-cut}
+use Rattle.lists.proofs.bytes.list_decoded.Statement.{statement}
+use Rattle.lists.proofs.bytes.list_decoded.Tie as tie
 
 -- the answers that fit into out fit into the array
 fits : (c : tie.After-fitting) → c .fitting .result ≤ 4098
