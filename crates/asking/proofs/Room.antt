@@ -14,9 +14,9 @@ use Rattle.row.specs.declared.refusal.Refusal.the-variants.{TooManyBits}
 use Rattle.row.specs.declared.gate.Gate.{Gate}
 use Rattle.row.specs.declared.gate.Gate.the-variants.{Open, Shut}
 use Rattle.row.specs.Gates.{wordsFor, rowGate, andThen}
-use Rattle.mmt.specs.Layout.{width, leaves, layoutOf, count, blockGate, roomGate, nodesGate}
-use Rattle.mmt.proofs.Admitted.{block-fits}
-use Rattle.mmt.proofs.Powers.{leaves-in, inner-small}
+use Rattle.layout.specs.Layout.{width, leaves, layoutOf, count, blockGate, roomGate, nodesGate}
+use Rattle.layout.proofs.Admitted.{block-fits}
+use Rattle.layout.proofs.Powers.{leaves-in, inner-small}
 use Rattle.wire.specs.Limit.{wordRoom, numberRoom, wireBits}
 
 leb-min : (x a m : ℕ) → x ≤ m → leb x (min a m) ≡ leb x a

@@ -13,9 +13,9 @@ use lib.ListN.{length, getD}
 use Rattle.row.specs.Bits.{digit}
 use Rattle.row.proofs.Gates.{row-fits}
 use Rattle.row.proofs.Surplus.{Same}
-use Rattle.mmt.specs.Layout.{width, count}
+use Rattle.layout.specs.Layout.{width, count}
 use Rattle.mmt.specs.Nodes.{nodeAt}
-use Rattle.mmt.proofs.Admitted.{gate-fine}
+use Rattle.layout.proofs.Admitted.{gate-fine}
 use Rattle.demands.specs.Questions.{Question, promised}
 use Rattle.demands.proofs.Unread.{Alike}
 use Rattle.demands.proofs.Alike.{RowAlike, NodesAlike, answers-same}

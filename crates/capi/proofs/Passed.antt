@@ -12,7 +12,7 @@ use Rattle.row.specs.declared.gate.Gate.{Gate}
 use Rattle.row.specs.declared.gate.Gate.the-variants.{Open, Shut}
 use Rattle.row.specs.Answer.{Answer, at, nothing, refused}
 use Rattle.row.specs.Gates.{through, kept}
-use Rattle.mmt.specs.Layout.{width, count, nodesGate}
+use Rattle.layout.specs.Layout.{width, count, nodesGate}
 use Rattle.mmt.specs.Nodes.{written}
 use Rattle.mmt.specs.Build.{builtNodes}
 use Rattle.mmt.proofs.Written.{written-length}

@@ -6,7 +6,7 @@ use lib.IntN.{ℤ}
 use lib.ListN.{length}
 use Rattle.row.specs.Answer.{at}
 use Rattle.row.specs.Gates.{through, kept}
-use Rattle.mmt.specs.Layout.{nodesGate}
+use Rattle.layout.specs.Layout.{nodesGate}
 use Rattle.mmt.specs.Nodes.{written}
 use Rattle.wire.specs.Answer.{wireOf}
 use Rattle.wire.specs.Limit.{wireBits}

@@ -4,7 +4,7 @@ ghost use Prim.Native.Nat.{_*_, _≤_};
 ghost use lib.ListN.{length};
 ghost use Rattle.row.specs.Answer.{at};
 ghost use Rattle.row.specs.Gates.{through};
-ghost use Rattle.mmt.specs.Layout.{width, count, nodesGate};
+ghost use Rattle.layout.specs.Layout.{width, count, nodesGate};
 ghost use Rattle.wire.specs.Answer.{wireOf};
 ghost use Rattle.capi.specs.Build.{leftBytes};
 use row::Built;
@@ -14,8 +14,8 @@ fn node_numbers(n: usize, block: usize) -> usize
     requires { ⌜ (n ≤ 4294967296) × (8 ≤ block) × (block ≤ 65536) ⌝ }
     ensures { λ r. ⌜ r ≡ width * count n block ⌝ }
 {
-    let all = mmt::layout_of(n, block);
-    mmt::WIDTH * (all.leaves + all.inner)
+    let all = layout::layout_of(n, block);
+    layout::WIDTH * (all.leaves + all.inner)
 }
 
 // Builds in numbers, then writes the nodes' numbers over the front of bytes.

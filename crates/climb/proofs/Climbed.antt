@@ -14,7 +14,7 @@ use lib.IntN.{ℤ}
 use Rattle.row.specs.Way.{Way}
 use Rattle.stretch.specs.Scan.{passed}
 use Rattle.mmt.specs.Nodes.{nodeAt}
-use Rattle.mmt.proofs.Places.{Place, place-up}
+use Rattle.layout.proofs.Places.{Place, place-up}
 use Rattle.walk.specs.Walk.{fits, holdsOn, Climb, last, sibling, climb}
 use Rattle.walk.proofs.Ways.{side-place, chosen, alike}
 use Rattle.walk.proofs.Steps.{climb-root, climb-up, climb-beside}

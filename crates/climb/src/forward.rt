@@ -4,7 +4,7 @@ ghost use mathlib.Core.Bool.{false};
 ghost use Prim.Native.Nat.{_+_, _*_, _<_, _≤_};
 ghost use lib.ListN.{length};
 ghost use Rattle.row.specs.Way.{forward};
-ghost use Rattle.mmt.specs.Layout.{width};
+ghost use Rattle.layout.specs.Layout.{width};
 ghost use Rattle.walk.specs.Walk.{last, climb};
 ghost use Rattle.examine.specs.Asked.{Room};
 ghost use Rattle.climb.specs.Climbed.{climbedOf, climbedOn, Higher, Rises};

@@ -25,10 +25,10 @@ use Rattle.row.specs.Way.{Way, forward, backward}
 use Rattle.row.proofs.Surplus.{Same, oneTree-same}
 use Rattle.stretch.specs.declared.numbers.Numbers.{Numbers}
 use Rattle.tree.specs.OneTree.{oneTreeAnswer}
-use Rattle.mmt.specs.Layout.{count, nodesGate}
+use Rattle.layout.specs.Layout.{count, nodesGate}
 use Rattle.mmt.specs.Nodes.{nodeAt}
 use Rattle.mmt.specs.Check.{builtTest, asBuiltAnswer}
-use Rattle.mmt.proofs.Admitted.{gate-fine}
+use Rattle.layout.proofs.Admitted.{gate-fine}
 use Rattle.walk.specs.Walk.{Walk, fits, walk}
 use Rattle.search.specs.Composed.{Searches, walked}
 use Rattle.search.specs.Searches.{searchAnswer, outward}

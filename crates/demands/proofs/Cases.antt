@@ -9,7 +9,7 @@ use Rattle.row.specs.Search.{least, greatest, fwd, bwd}
 use Rattle.row.specs.Tree.{opens, closes}
 use Rattle.stretch.specs.Numbers.{run, lowest, highest, none, numbersOf, joinOf, holdsFor, holdsBack}
 use Rattle.stretch.specs.Scan.{scan}
-use Rattle.mmt.specs.Layout.{leaves, exponent, power, innerFor, layoutOf, blockGate, roomGate, nodesGate}
+use Rattle.layout.specs.Layout.{leaves, exponent, power, innerFor, layoutOf, blockGate, roomGate, nodesGate}
 use Rattle.mmt.specs.Nodes.{nodeAt, leafOf, innerOf, nodeFrom, nodeOf, listed, written}
 use Rattle.walk.specs.Walk.{near, fits, climb, descend, walk}
 use Rattle.level.specs.Levels.{levelAncestor, levelNext, levelPrev, levelRightmost, ones, lastStart, rootStart}

@@ -14,9 +14,9 @@ use Rattle.row.specs.Gates.{rowGate, handleGate, through}
 use Rattle.row.specs.Search.{fwd, bwd}
 use Rattle.row.specs.Way.{forward, backward}
 use Rattle.row.proofs.Gates.{row-open}
-use Rattle.mmt.specs.Layout.{nodesGate, Fine}
+use Rattle.layout.specs.Layout.{nodesGate, Fine}
 use Rattle.mmt.specs.Nodes.{AsBuilt}
-use Rattle.mmt.proofs.Admitted.{fine-gate}
+use Rattle.layout.proofs.Admitted.{fine-gate}
 use Rattle.walk.proofs.Right.{walk-forward, walk-backward}
 use Rattle.family.specs.Family as family
 use Rattle.level.specs.Levels as level

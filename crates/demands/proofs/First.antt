@@ -20,7 +20,7 @@ use Rattle.row.specs.Gates.{wordsFor, rowGate, through, kept}
 use Rattle.row.specs.Tree.{oneTree}
 use Rattle.text.specs.Text.{allParentheses, wordsOf, textGate, textWords}
 use Rattle.tree.specs.OneTree.{oneTreeAnswer}
-use Rattle.mmt.specs.Layout.{width, count, nodesGate}
+use Rattle.layout.specs.Layout.{width, count, nodesGate}
 use Rattle.mmt.specs.Nodes.{written}
 use Rattle.mmt.specs.Build.{builtNodes}
 use Rattle.mmt.specs.Check.{builtTest, asBuiltAnswer}

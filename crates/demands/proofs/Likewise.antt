@@ -17,7 +17,7 @@ use Rattle.row.specs.Tree.{opens, closes, allBelow}
 use Rattle.row.proofs.Surplus.{Same, opens-same, closes-same}
 use Rattle.stretch.specs.declared.numbers.Numbers.{Numbers}
 use Rattle.stretch.proofs.Full.{numbers-ext}
-use Rattle.mmt.specs.Layout.{inner, count}
+use Rattle.layout.specs.Layout.{inner, count}
 use Rattle.mmt.specs.Nodes.{nodeAt, leafOf, innerOf, nodeFrom, nodeOf, listed, written}
 use Rattle.mmt.specs.Check.{sameNumbers, builtTest}
 use Rattle.mmt.proofs.Nodes.{from-ext}

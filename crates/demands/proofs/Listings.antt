@@ -12,8 +12,8 @@ use lib.ListN.{length}
 use denote.Ref.{RefT, now}
 use Rattle.row.specs.Answer.{Answer, at}
 use Rattle.row.proofs.Gates.{row-open}
-use Rattle.mmt.specs.Layout.{Fine}
-use Rattle.mmt.proofs.Admitted.{fine-gate}
+use Rattle.layout.specs.Layout.{Fine}
+use Rattle.layout.proofs.Admitted.{fine-gate}
 use Rattle.search.specs.Handles.{handleAnswer, nodeAnswer}
 use Rattle.listing.specs.Listing.{Listing, sought, making, begun, after, made}
 use Rattle.listing.specs.Steps.{answerAt, nth}

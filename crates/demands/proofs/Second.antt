@@ -22,11 +22,11 @@ use Rattle.row.proofs.Gates.{row-open}
 use Rattle.row.proofs.Meaning.{IsFwd, IsBwd, fwd-is, bwd-is}
 use Rattle.row.proofs.Tree.{oneTree-true, oneTree-yes}
 use Rattle.tree.specs.OneTree.{oneTreeAnswer}
-use Rattle.mmt.specs.Layout.{width, count, nodesGate, Fine}
+use Rattle.layout.specs.Layout.{width, count, nodesGate, Fine}
 use Rattle.mmt.specs.Nodes.{AsBuilt, written}
 use Rattle.mmt.specs.Build.{builtNodes}
 use Rattle.mmt.specs.Check.{builtTest, asBuiltAnswer}
-use Rattle.mmt.proofs.Admitted.{fine-gate}
+use Rattle.layout.proofs.Admitted.{fine-gate}
 use Rattle.mmt.proofs.Written.{written-length, written-built}
 use Rattle.mmt.proofs.Tested.{built-true, built-yes}
 use Rattle.demands.specs.Questions.{fwdSearch, bwdSearch, promised}

@@ -19,7 +19,7 @@ use Rattle.row.specs.declared.gate.Gate.the-variants.{Open, Shut}
 use Rattle.row.specs.Answer.{Answer, at}
 use Rattle.row.specs.Gates.{wordsFor, rowGate, andThen, through}
 use Rattle.row.proofs.Surplus.{Same, words-beyond}
-use Rattle.mmt.specs.Layout.{width, count, blockGate, roomGate, nodesGate}
+use Rattle.layout.specs.Layout.{width, count, blockGate, roomGate, nodesGate}
 use Rattle.mmt.specs.Nodes.{nodeAt, written}
 use Rattle.mmt.specs.Build.{builtNodes}
 use Rattle.mmt.proofs.Written.{written-length}

@@ -21,8 +21,8 @@ use Rattle.row.specs.Answer.{Answer, numberOf}
 use Rattle.row.specs.Gates.{wordsFor, rowGate, handleGate, through, andThen}
 use Rattle.row.specs.Tree.{opens}
 use Rattle.row.proofs.Gates.{row-many, row-few, row-open}
-use Rattle.mmt.specs.Layout.{width, count, blockGate, roomGate, nodesGate}
-use Rattle.mmt.proofs.Admitted.{block-open, room-few, gate-block, gate-row, gate-room, fine-gate}
+use Rattle.layout.specs.Layout.{width, count, blockGate, roomGate, nodesGate}
+use Rattle.layout.proofs.Admitted.{block-open, room-few, gate-block, gate-row, gate-room, fine-gate}
 use Rattle.family.specs.Family.{bothGate}
 use Rattle.demands.specs.Listing.{Among}
 use Rattle.demands.specs.Handles.{Handle}

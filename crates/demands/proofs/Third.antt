@@ -18,7 +18,7 @@ use Rattle.row.specs.Answer.{Answer}
 use Rattle.row.specs.Excess.{E}
 use Rattle.row.specs.Gates.{handleGate, through}
 use Rattle.row.specs.Tree.{OneTree}
-use Rattle.mmt.specs.Layout.{Fine}
+use Rattle.layout.specs.Layout.{Fine}
 use Rattle.mmt.specs.Nodes.{AsBuilt}
 use Rattle.mmt.specs.Build.{builtNodes}
 use Rattle.family.specs.Family as family

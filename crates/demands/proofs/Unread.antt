@@ -20,7 +20,7 @@ use Rattle.row.proofs.Surplus.{Same}
 use Rattle.stretch.specs.declared.bits.Scanned.{Scanned}
 use Rattle.stretch.specs.declared.bits.Scanned.the-variants.{Hit, Left}
 use Rattle.stretch.specs.Scan.{less, scan}
-use Rattle.mmt.specs.Layout.{inner, count}
+use Rattle.layout.specs.Layout.{inner, count}
 use Rattle.mmt.specs.Nodes.{nodeAt}
 use Rattle.walk.specs.Walk.{examine, Climb, turn, out, misfit, last, sibling, climb, Descent, leaf, lost, nearer, farther, descend, Walk, found, far, ends, startBlock, startScan, inLeaf, land, after, inStart, walk}
 use Rattle.walk.proofs.Right.{inside}

@@ -19,7 +19,7 @@ use Rattle.row.proofs.Meaning.{IsFwd, IsBwd, fwd-is, bwd-is}
 use Rattle.stretch.specs.declared.bits.Scanned.{Scanned}
 use Rattle.stretch.specs.declared.bits.Scanned.the-variants.{Hit, Left}
 use Rattle.stretch.specs.Scan.{less, scan}
-use Rattle.mmt.specs.Layout.{inner, count}
+use Rattle.layout.specs.Layout.{inner, count}
 use Rattle.mmt.specs.Nodes.{nodeAt}
 use Rattle.walk.specs.Walk.{fits, Climb, turn, out, misfit, climb, Descent, leaf, lost, descend, found, far, ends, startBlock, startScan, inLeaf, land, after, inStart, walk}
 use Rattle.walk.proofs.Right.{inside}

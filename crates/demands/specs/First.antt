@@ -15,7 +15,7 @@ use Rattle.row.specs.Answer.{Answer, at, nothing, refused}
 use Rattle.row.specs.Gates.{through}
 use Rattle.text.specs.Text.{textGate, textWords}
 use Rattle.tree.specs.OneTree.{oneTreeAnswer}
-use Rattle.mmt.specs.Layout.{width, count, nodesGate, Fine}
+use Rattle.layout.specs.Layout.{width, count, nodesGate, Fine}
 use Rattle.mmt.specs.Build.{builtNodes}
 use Rattle.mmt.specs.Check.{asBuiltAnswer}
 use Rattle.demands.specs.Questions.{Question, fwdSearch, bwdSearch, closeOf, openOf, enclose, root, parent, firstChild, lastChild, nextSibling, previousSibling, isLeaf, isAncestor, levelAncestor, levelNext, levelPrev, levelLeftmost, levelRightmost, promised}

@@ -14,7 +14,7 @@ use Rattle.row.specs.Excess.{E}
 use Rattle.row.specs.Tree.{OneTree}
 use Rattle.row.specs.Way.{Way, forward, backward, Before}
 use Rattle.tree.specs.OneTree.{oneTreeAnswer}
-use Rattle.mmt.specs.Layout.{width, count, Fine}
+use Rattle.layout.specs.Layout.{width, count, Fine}
 use Rattle.mmt.specs.Nodes.{AsBuilt}
 use Rattle.mmt.specs.Build.{builtNodes}
 use Rattle.mmt.specs.Check.{asBuiltAnswer}

@@ -13,7 +13,7 @@ use denote.Ref.{RefT, now}
 use Rattle.row.specs.Answer.{at}
 use Rattle.row.specs.Bits.{bitAt}
 use Rattle.tree.specs.OneTree.{oneTreeAnswer}
-use Rattle.mmt.specs.Layout.{width, count}
+use Rattle.layout.specs.Layout.{width, count}
 use Rattle.mmt.specs.Build.{builtNodes}
 use Rattle.mmt.specs.Check.{asBuiltAnswer}
 use Rattle.listing.specs.Listing.{made}

@@ -13,7 +13,7 @@ use denote.Ref.{RefT, now}
 use Rattle.row.specs.Answer.{Answer, at, nothing}
 use Rattle.row.specs.Excess.{E}
 use Rattle.row.specs.Tree.{OneTree}
-use Rattle.mmt.specs.Layout.{Fine}
+use Rattle.layout.specs.Layout.{Fine}
 use Rattle.mmt.specs.Nodes.{AsBuilt}
 use Rattle.mmt.specs.Build.{builtNodes}
 use Rattle.listing.specs.Listing.{made}

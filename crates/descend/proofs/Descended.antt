@@ -17,7 +17,7 @@ use Rattle.row.specs.Way.{Way}
 use Rattle.stretch.specs.declared.numbers.Numbers.{Numbers}
 use Rattle.stretch.specs.Scan.{passed}
 use Rattle.mmt.specs.Nodes.{nodeAt}
-use Rattle.mmt.proofs.Places.{Place}
+use Rattle.layout.proofs.Places.{Place}
 use Rattle.walk.specs.Walk.{fits, holdsOn, Descent, nearer, farther, descend}
 use Rattle.walk.proofs.Ways.{near-place, far-place, chosen, alike}
 use Rattle.walk.proofs.Steps.{descend-leaf}

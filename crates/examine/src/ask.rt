@@ -3,7 +3,7 @@ ghost use mathlib.Core.Path.{_≡_};
 ghost use Prim.Native.Nat.{_+_, _*_, _≤_};
 ghost use lib.ListN.{length};
 ghost use Rattle.row.specs.Way.{forward, backward};
-ghost use Rattle.mmt.specs.Layout.{width};
+ghost use Rattle.layout.specs.Layout.{width};
 ghost use Rattle.mmt.specs.Nodes.{nodeAt};
 ghost use Rattle.walk.specs.Walk.{near};
 ghost use Rattle.examine.specs.Asked.{examinedOf, askedOf, Room};

@@ -10,7 +10,7 @@ use Rattle.row.specs.declared.refusal.Refusal.{Refusal}
 use Rattle.row.specs.declared.gate.Gate.the-variants.{Open, Shut}
 use Rattle.row.specs.Answer.{Answer, refused, numberOf}
 use Rattle.row.specs.Gates.{andThen}
-use Rattle.mmt.specs.Layout.{nodesGate}
+use Rattle.layout.specs.Layout.{nodesGate}
 use Rattle.search.specs.Searches.{WhereBuilt}
 use Rattle.search.specs.Composed.{walked}
 use Rattle.search.proofs.Nodes.{gates-shut, gates-open}

@@ -10,7 +10,7 @@ use Rattle.row.specs.declared.gate.Gate.{Gate}
 use Rattle.row.specs.Answer.{Answer, at, nothing}
 use Rattle.row.specs.Gates.{handleGate, andThen, through}
 use Rattle.row.specs.Tree.{opens, closes}
-use Rattle.mmt.specs.Layout.{nodesGate}
+use Rattle.layout.specs.Layout.{nodesGate}
 use Rattle.search.specs.Searches.{outward}
 use Rattle.search.specs.Composed.{Searches, walked, defined, onward, told, handleAt, closeOf, openOf}
 

@@ -12,7 +12,7 @@ ghost use lib.ListN.{length};
 ghost use Rattle.row.specs.Answer.{paperFound, paperTold};
 ghost use Rattle.row.specs.Gates.{rowGate, andThen, through};
 ghost use Rattle.row.specs.Tree.{opens};
-ghost use Rattle.mmt.specs.Layout.{nodesGate, Fine};
+ghost use Rattle.layout.specs.Layout.{nodesGate, Fine};
 ghost use Rattle.search.specs.Searches.{WhereBuilt};
 ghost use Rattle.search.specs.Composed.{walked, told, handleAt};
 ghost use Rattle.family.specs.Family.{root, firstChild, isLeaf, parent, lastChild, nextSibling, previousSibling, isAncestor};

@@ -32,9 +32,9 @@ use Rattle.row.specs.declared.gate.Gate.the-variants.{Open, Shut}
 use Rattle.row.specs.Answer.{Answer, at, nothing, refused, numberOf, paperFound}
 use Rattle.row.specs.Gates.{through}
 use Rattle.row.specs.Way.{Way, forward, backward}
-use Rattle.mmt.specs.Layout.{nodesGate}
+use Rattle.layout.specs.Layout.{nodesGate}
 use Rattle.mmt.specs.Nodes.{AsBuilt}
-use Rattle.mmt.proofs.Admitted.{gate-fine}
+use Rattle.layout.proofs.Admitted.{gate-fine}
 use Rattle.walk.specs.Walk.{ends, walk}
 use Rattle.walking.proofs.Answers.{walk-end, walk-far}
 use Rattle.search.specs.Composed.{Searches, walked, defined, onward, openOf}

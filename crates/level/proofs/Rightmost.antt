@@ -31,10 +31,10 @@ use Rattle.row.proofs.Excess.{excess-ext}
 use Rattle.row.proofs.Meaning.{bwd-past}
 use Rattle.stretch.specs.Numbers.{numbersOf}
 use Rattle.stretch.proofs.Covers.{numbers-total}
-use Rattle.mmt.specs.Layout.{leaves, innerFor, count}
+use Rattle.layout.specs.Layout.{leaves, innerFor, count}
 use Rattle.mmt.specs.Nodes.{nodeAt, AsBuilt}
-use Rattle.mmt.proofs.Powers.{inner-top, inner-room, leaves-out}
-use Rattle.mmt.proofs.Places.{count-is, blockAt, block-out, reach, reach-next, Place}
+use Rattle.layout.proofs.Powers.{inner-top, inner-room, leaves-out}
+use Rattle.layout.proofs.Places.{count-is, blockAt, block-out, reach, reach-next, Place}
 use Rattle.mmt.proofs.Covered.{startOf, top, node-is}
 use Rattle.walk.specs.Walk.{fits}
 use Rattle.walk.proofs.Told.{numbers-fit}

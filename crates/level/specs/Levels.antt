@@ -9,7 +9,7 @@ use lib.ListN.{length}
 use Rattle.row.specs.Answer.{Answer, at, nothing, refused}
 use Rattle.row.specs.Bits.{bitAt}
 use Rattle.row.specs.Gates.{through}
-use Rattle.mmt.specs.Layout.{nodesGate}
+use Rattle.layout.specs.Layout.{nodesGate}
 use Rattle.mmt.specs.Nodes.{nodeAt}
 use Rattle.walk.specs.Walk.{fits}
 use Rattle.search.specs.Composed.{Searches, walked, defined, onward, closeOf, openOf}

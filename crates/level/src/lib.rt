@@ -7,7 +7,7 @@ ghost use lib.IntN.{pos, _+ℤ_, _-ℤ_};
 ghost use lib.ListN.{length};
 ghost use Rattle.ints.specs.Sides.{size};
 ghost use Rattle.row.specs.Answer.{paperFound};
-ghost use Rattle.mmt.specs.Layout.{Fine, width};
+ghost use Rattle.layout.specs.Layout.{Fine, width};
 ghost use Rattle.search.specs.Composed.{walked, defined, onward, openOf};
 ghost use Rattle.level.specs.Levels.{levelAncestor, levelNext, levelPrev, levelLeftmost, levelRightmost, inRow, rootStart};
 ghost use Rattle.search.specs.Handles.{nodeAnswer, nodeDefined};
@@ -179,7 +179,7 @@ pub fn level_leftmost(words: &[u64], n: usize, nodes: &[i64], block: usize, k: u
     ensures { λ a. ⌜ paperFound a ≡ levelAnswer levelLeftmost (now (words .entry)) n (now (nodes .entry)) block k ⌝ }
     ensures { λ a. ⌜ WhereBuilt (now (words .entry)) n (now (nodes .entry)) block (paperFound a) (levelLeftmost (now (words .entry)) n (defined (now (words .entry)) n) k) ⌝ }
 {
-    match mmt::admit(words.len(), n, nodes.len(), block) {
+    match layout::admit(words.len(), n, nodes.len(), block) {
         Gate::Shut(e) => Found::Refused(e),
         Gate::Open => leftmost_at(words, n, nodes, block, k),
     }
@@ -190,7 +190,7 @@ pub fn level_rightmost(words: &[u64], n: usize, nodes: &[i64], block: usize, k: 
     ensures { λ a. ⌜ paperFound a ≡ rightmostAnswer (now (words .entry)) n (now (nodes .entry)) block k ⌝ }
     ensures { λ a. ⌜ WhereBuilt (now (words .entry)) n (now (nodes .entry)) block (paperFound a) (rightmostDefined (now (words .entry)) n k) ⌝ }
 {
-    match mmt::admit(words.len(), n, nodes.len(), block) {
+    match layout::admit(words.len(), n, nodes.len(), block) {
         Gate::Shut(e) => Found::Refused(e),
         Gate::Open => rightmost_at(words, n, nodes, block, k),
     }

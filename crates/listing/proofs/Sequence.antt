@@ -21,7 +21,7 @@ use Rattle.row.specs.declared.gate.Gate.the-variants.{Open, Shut}
 use Rattle.row.specs.Answer.{Answer, at, nothing, refused, paperFound}
 use Rattle.row.specs.Gates.{handleGate, through}
 use Rattle.row.specs.Tree.{opens}
-use Rattle.mmt.specs.Layout.{nodesGate}
+use Rattle.layout.specs.Layout.{nodesGate}
 use Rattle.mmt.specs.Nodes.{AsBuilt}
 use Rattle.search.specs.Composed.{Searches, defined, onward}
 use Rattle.search.specs.Handles.{nodeAnswer}

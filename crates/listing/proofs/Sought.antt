@@ -15,7 +15,7 @@ use Rattle.row.specs.declared.gate.Gate.{Gate}
 use Rattle.row.specs.declared.gate.Gate.the-variants.{Open, Shut}
 use Rattle.row.specs.Answer.{Answer, at, nothing, refused, numberOf, paperFound}
 use Rattle.row.specs.Gates.{rowGate, handleGate, andThen}
-use Rattle.mmt.specs.Layout.{blockGate, roomGate, nodesGate}
+use Rattle.layout.specs.Layout.{blockGate, roomGate, nodesGate}
 use Rattle.family.specs.Family.{firstChild}
 use Rattle.search.specs.Handles.{handleAnswer, nodeAnswer}
 use Rattle.search.proofs.Nodes.{then-open}

@@ -23,11 +23,11 @@ use Rattle.row.proofs.Excess.{Near, steps}
 use Rattle.stretch.specs.declared.numbers.Numbers.{Numbers}
 use Rattle.stretch.specs.Numbers.{none, numbersOf, joinOf, Tame}
 use Rattle.stretch.proofs.Full.{Full, end-over, end-under, join-full, full-only, numbers-full, numbers-tame}
-use Rattle.mmt.specs.Layout.{leaves, innerFor, count}
+use Rattle.layout.specs.Layout.{leaves, innerFor, count}
 use Rattle.mmt.specs.Nodes.{nodeAt, leafOf, innerOf, Ruled}
-use Rattle.mmt.proofs.Powers.{levels, inner-top, inner-room, leaves-in}
+use Rattle.layout.proofs.Powers.{levels, inner-top, inner-room, leaves-in}
 use Rattle.mmt.proofs.Nodes.{inner-both, inner-left, inner-none, from-inner, from-leaf}
-use Rattle.mmt.proofs.Places.{inner-is, count-is, blockAt, block-mono, block-le, block-in, block-out, block-next, block-lt, reach, reach-zero, reach-next, reach-child, Place, place-left, place-right, place-ge, place-inner, place-leaf, place-of}
+use Rattle.layout.proofs.Places.{inner-is, count-is, blockAt, block-mono, block-le, block-in, block-out, block-next, block-lt, reach, reach-zero, reach-next, reach-child, Place, place-left, place-right, place-ge, place-inner, place-leaf, place-of}
 
 -- ---- a stretch, or an empty one with the numbers (0,0,0)
 pub data Node (e : ℕ → ℤ) (a t : ℕ) (x : Numbers) : Type 0 where

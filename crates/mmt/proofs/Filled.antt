@@ -15,11 +15,11 @@ use lib.Seq.{getD-append-add, getD-drop, drop-drop}
 use Rattle.row.specs.declared.refusal.Refusal.{Refusal}
 use Rattle.row.specs.declared.gate.Gate.the-variants.{Open, Shut}
 use Rattle.stretch.specs.declared.numbers.Numbers.{Numbers}
-use Rattle.mmt.specs.Layout.{width, leaves, inner, count, nodesGate}
+use Rattle.layout.specs.Layout.{width, leaves, inner, count, nodesGate}
 use Rattle.mmt.specs.Nodes.{nodeAt, withNode, leafOf, nodeFrom, Ruled, written}
 use Rattle.mmt.specs.Build.{builtNodes}
 use Rattle.mmt.specs.Filling.{Filled, Leveled}
-use Rattle.mmt.proofs.Admitted.{layout-leaves}
+use Rattle.layout.proofs.Admitted.{layout-leaves}
 use Rattle.mmt.proofs.Nodes.{from-leaf, from-ext, put-length, node-put, other-number, node-other}
 use Rattle.mmt.proofs.Written.{ruled-of, written-is}
 

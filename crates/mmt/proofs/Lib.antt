@@ -1,7 +1,4 @@
-pub mod Powers
-pub mod Admitted
 pub mod Nodes
-pub mod Places
 pub mod Covered
 pub mod Written
 pub mod Filled

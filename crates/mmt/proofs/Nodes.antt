@@ -16,7 +16,7 @@ use lib.ListN.{getD, length, set, length-set}
 use lib.Seq.{getD-set-same, getD-set-other}
 use Rattle.stretch.specs.declared.numbers.Numbers.{Numbers}
 use Rattle.stretch.specs.Numbers.{none, joinOf}
-use Rattle.mmt.specs.Layout.{width, inner, count}
+use Rattle.layout.specs.Layout.{width, inner, count}
 use Rattle.mmt.specs.Nodes.{nodeAt, withNode, leafOf, innerOf, nodeFrom}
 
 -- ---- an inner node of m

@@ -25,10 +25,10 @@ use Rattle.row.specs.Tree.{allBelow}
 use Rattle.row.proofs.Bools.{and-left, and-right, and-both}
 use Rattle.row.proofs.Tree.{all-each, each-all}
 use Rattle.stretch.specs.declared.numbers.Numbers.{Numbers}
-use Rattle.mmt.specs.Layout.{width, count, nodesGate}
+use Rattle.layout.specs.Layout.{width, count, nodesGate}
 use Rattle.mmt.specs.Nodes.{nodeAt, nodeFrom, Ruled, AsBuilt}
 use Rattle.mmt.specs.Check.{sameNumbers, builtTest, asBuiltAnswer, Decides}
-use Rattle.mmt.proofs.Admitted.{gate-fine}
+use Rattle.layout.proofs.Admitted.{gate-fine}
 
 -- ---- the numbers of two nodes
 module _ (x y : Numbers) where

@@ -14,7 +14,7 @@ use lib.IntN.{ℤ, pos}
 use lib.ListN.{getD, length, drop, length-append, length-drop, List·getD-append}
 use lib.Seq.{ext-getD, getD-append-add, getD-drop}
 use Rattle.stretch.specs.declared.numbers.Numbers.{Numbers}
-use Rattle.mmt.specs.Layout.{width, count}
+use Rattle.layout.specs.Layout.{width, count}
 use Rattle.mmt.specs.Nodes.{nodeAt, nodeFrom, Ruled, AsBuilt, nodeOf, listed, written}
 use Rattle.mmt.proofs.Nodes.{from-ext}
 

@@ -5,7 +5,7 @@ use Prim.Native.Nat.{ℕ, _*_}
 use lib.IntN.{ℤ}
 use lib.ListN.{length, drop}
 use Rattle.row.specs.Gates.{kept}
-use Rattle.mmt.specs.Layout.{width, count, nodesGate}
+use Rattle.layout.specs.Layout.{width, count, nodesGate}
 use Rattle.mmt.specs.Nodes.{written}
 
 -- the buffer after the call: the numbers that document 01 gives, followed by what stood past them; a refusal leaves all

@@ -14,7 +14,7 @@ use Rattle.row.specs.Answer.{Answer, at}
 use Rattle.row.specs.Gates.{through}
 use Rattle.row.specs.Tree.{allBelow}
 use Rattle.stretch.specs.declared.numbers.Numbers.{Numbers}
-use Rattle.mmt.specs.Layout.{count, nodesGate}
+use Rattle.layout.specs.Layout.{count, nodesGate}
 use Rattle.mmt.specs.Nodes.{nodeAt, nodeFrom, AsBuilt}
 
 -- all three numbers are the same

@@ -6,7 +6,7 @@ use mathlib.Core.List.{List}
 use Prim.Native.Nat.{ℕ, _*_, _≤_, _<_}
 use lib.IntN.{ℤ, pos}
 use lib.ListN.{getD, length}
-use Rattle.mmt.specs.Layout.{width, count}
+use Rattle.layout.specs.Layout.{width, count}
 use Rattle.mmt.specs.Nodes.{nodeAt, leafOf, Ruled}
 
 -- the leaves' part of the buffer, its first b leaves filled

@@ -1,4 +1,3 @@
-pub mod Layout
 pub mod Nodes
 pub mod Build
 pub mod Filling

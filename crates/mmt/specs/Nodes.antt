@@ -10,7 +10,7 @@ use lib.ListN.{getD, length, set}
 use Rattle.row.specs.Bits.{bitAt}
 use Rattle.stretch.specs.declared.numbers.Numbers.{Numbers}
 use Rattle.stretch.specs.Numbers.{none, numbersOf, joinOf}
-use Rattle.mmt.specs.Layout.{width, inner, count}
+use Rattle.layout.specs.Layout.{width, inner, count}
 
 -- node k's numbers stand at 3k, 3k+1, 3k+2
 unfoldable pub nodeAt : List ℤ → ℕ → Numbers

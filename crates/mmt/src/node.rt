@@ -4,13 +4,11 @@ ghost use Prim.Native.Nat.{ℕ, _+_, _*_, _%_, _<_, _≤_};
 ghost use lib.ListN.{length};
 ghost use Rattle.lookup.specs.Table.{IsTable};
 ghost use Rattle.stretch.specs.Numbers.{Tame};
-ghost use Rattle.mmt.specs.Layout.{width, inner, count, Fine};
+ghost use Rattle.layout.specs.Layout.{width, inner, count, Fine};
 ghost use Rattle.mmt.specs.Nodes.{nodeAt, withNode, leafOf, innerOf, nodeFrom, Ruled};
+use layout::WIDTH;
 use lookup::Lookup;
 use stretch::Numbers;
-
-// How many numbers a node takes.
-pub const WIDTH: usize = 3;
 
 // The numbers of node k.
 pub fn node_at(nodes: &[i64], k: usize) -> Numbers

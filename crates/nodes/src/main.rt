@@ -67,7 +67,7 @@ fn damage(words: &[u64], n: usize, nodes: &mut [i64], block: usize, i: usize, x:
 
 fn inner(leaves: usize) {
     if leaves <= 9 {
-        let l = mmt::layout_of(8 * leaves, 8);
+        let l = layout::layout_of(8 * leaves, 8);
         say(b"leaves", l.leaves as u64);
         say(b"  inner", l.inner as u64);
     }

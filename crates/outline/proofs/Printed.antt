@@ -17,10 +17,10 @@ use Rattle.row.specs.Gates.{through}
 use Rattle.row.specs.Tree.{OneTree, oneTree}
 use Rattle.row.proofs.Tree.{oneTree-true}
 use Rattle.text.specs.Text.{allParentheses, textWords}
-use Rattle.mmt.specs.Layout.{width, leaves, layoutOf, count, nodesGate, Fine}
+use Rattle.layout.specs.Layout.{width, leaves, layoutOf, count, nodesGate, Fine}
 use Rattle.mmt.specs.Build.{builtNodes}
-use Rattle.mmt.proofs.Powers.{inner-small}
-use Rattle.mmt.proofs.Admitted.{fine-gate}
+use Rattle.layout.proofs.Powers.{inner-small}
+use Rattle.layout.proofs.Admitted.{fine-gate}
 use Rattle.demands.proofs.Second.{second}
 use Rattle.demands.proofs.Third.{third}
 use Rattle.line.specs.Input.{lineEnd, line, inputAnswer, lineWords}

@@ -5,7 +5,7 @@ ghost use lib.IntN.{negsuc};
 ghost use lib.ListN.{length};
 ghost use Rattle.row.specs.Answer as answer;
 ghost use Rattle.row.specs.Gates.{through};
-ghost use Rattle.mmt.specs.Layout.{nodesGate};
+ghost use Rattle.layout.specs.Layout.{nodesGate};
 ghost use Rattle.mmt.specs.Build.{builtNodes};
 ghost use Rattle.search.specs.Searches.{fwdAnswer, bwdAnswer, outward};
 ghost use Rattle.wire.specs.Answer.{wireOf};

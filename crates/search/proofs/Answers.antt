@@ -23,8 +23,8 @@ use Rattle.row.specs.Bits.{digit, bitAt}
 use Rattle.row.specs.Search.{fwd, bwd}
 use Rattle.row.specs.Tree.{opens}
 use Rattle.row.specs.Way.{Way, forward, backward}
-use Rattle.mmt.specs.Layout.{nodesGate}
-use Rattle.mmt.proofs.Admitted.{gate-fine}
+use Rattle.layout.specs.Layout.{nodesGate}
+use Rattle.layout.proofs.Admitted.{gate-fine}
 use Rattle.walk.specs.Walk.{walk}
 use Rattle.walk.proofs.Right.{walk-forward, walk-backward}
 use Rattle.search.specs.Searches.{searchAnswer, WhereBuilt, outward}

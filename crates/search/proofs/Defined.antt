@@ -11,9 +11,9 @@ use Rattle.row.specs.declared.gate.Gate.the-variants.{Open}
 use Rattle.row.specs.Answer.{Answer}
 use Rattle.row.specs.Search.{fwd, bwd}
 use Rattle.row.specs.Way.{forward, backward}
-use Rattle.mmt.specs.Layout.{nodesGate}
+use Rattle.layout.specs.Layout.{nodesGate}
 use Rattle.mmt.specs.Nodes.{AsBuilt}
-use Rattle.mmt.proofs.Admitted.{gate-fine}
+use Rattle.layout.proofs.Admitted.{gate-fine}
 use Rattle.walk.specs.Walk.{walk}
 use Rattle.walk.proofs.Right.{walk-forward, walk-backward}
 use Rattle.search.specs.Composed.{Searches, walked, defined}

@@ -23,8 +23,8 @@ use Rattle.row.specs.Gates.{rowGate, handleGate, andThen, through}
 use Rattle.row.specs.Tree.{opens}
 use Rattle.row.proofs.Bools.{and-left}
 use Rattle.row.proofs.Gates.{row-fits}
-use Rattle.mmt.specs.Layout.{nodesGate, Fine}
-use Rattle.mmt.proofs.Admitted.{gate-fine}
+use Rattle.layout.specs.Layout.{nodesGate, Fine}
+use Rattle.layout.proofs.Admitted.{gate-fine}
 use Rattle.search.specs.Searches.{WhereBuilt}
 use Rattle.search.specs.Composed.{Searches, walked, defined}
 use Rattle.search.specs.Handles.{handleAnswer, nodeAnswer, nodeDefined}

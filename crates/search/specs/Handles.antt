@@ -6,7 +6,7 @@ use lib.IntN.{ℤ}
 use lib.ListN.{length}
 use Rattle.row.specs.Answer.{Answer}
 use Rattle.row.specs.Gates.{rowGate, handleGate, andThen, through}
-use Rattle.mmt.specs.Layout.{nodesGate}
+use Rattle.layout.specs.Layout.{nodesGate}
 use Rattle.search.specs.Composed.{Searches, walked, defined}
 
 -- a call on a handle that searches nothing: refusals 2, 3 and 5

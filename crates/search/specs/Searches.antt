@@ -11,7 +11,7 @@ use Rattle.row.specs.Answer.{Answer}
 use Rattle.row.specs.Gates.{through}
 use Rattle.row.specs.Tree.{opens}
 use Rattle.row.specs.Way.{Way, forward, backward}
-use Rattle.mmt.specs.Layout.{nodesGate}
+use Rattle.layout.specs.Layout.{nodesGate}
 use Rattle.mmt.specs.Nodes.{AsBuilt}
 use Rattle.walk.specs.Walk.{walk}
 

@@ -2,7 +2,7 @@
 ghost use mathlib.Core.Path.{_≡_};
 ghost use lib.ListN.{length};
 ghost use Rattle.row.specs.Gates.{rowGate, handleGate, andThen};
-ghost use Rattle.mmt.specs.Layout.{nodesGate};
+ghost use Rattle.layout.specs.Layout.{nodesGate};
 use row::Gate;
 
 // Refusals 2, 3 and 5, in their order, for the handle v.
@@ -19,7 +19,7 @@ pub fn admit_handle(words: &[u64], n: usize, v: usize) -> Gate
 pub fn admit_node(words: &[u64], n: usize, nodes: &[i64], block: usize, v: usize) -> Gate
     ensures { λ g. ⌜ g ≡ andThen (nodesGate (length (now (words .entry))) n (length (now (nodes .entry))) block) (handleGate (now (words .entry)) n v) ⌝ }
 {
-    match mmt::admit(words.len(), n, nodes.len(), block) {
+    match layout::admit(words.len(), n, nodes.len(), block) {
         Gate::Shut(k) => Gate::Shut(k),
         Gate::Open => row::admit_handle(words, n, v),
     }

@@ -12,7 +12,7 @@ pub fn fwd_search(words: &[u64], n: usize, nodes: &[i64], block: usize, i: usize
     ensures { λ a. ⌜ paperFound a ≡ fwdAnswer (now (words .entry)) n (now (nodes .entry)) block i r ⌝ }
     ensures { λ a. ⌜ WhereBuilt (now (words .entry)) n (now (nodes .entry)) block (paperFound a) (fwd (now (words .entry)) n i r) ⌝ }
 {
-    match mmt::admit(words.len(), n, nodes.len(), block) {
+    match layout::admit(words.len(), n, nodes.len(), block) {
         Gate::Shut(k) => Found::Refused(k),
         Gate::Open => walking::walk_fwd(words, n, nodes, block, i, r),
     }
@@ -23,7 +23,7 @@ pub fn bwd_search(words: &[u64], n: usize, nodes: &[i64], block: usize, i: usize
     ensures { λ a. ⌜ paperFound a ≡ bwdAnswer (now (words .entry)) n (now (nodes .entry)) block i r ⌝ }
     ensures { λ a. ⌜ WhereBuilt (now (words .entry)) n (now (nodes .entry)) block (paperFound a) (bwd (now (words .entry)) n i r) ⌝ }
 {
-    match mmt::admit(words.len(), n, nodes.len(), block) {
+    match layout::admit(words.len(), n, nodes.len(), block) {
         Gate::Shut(k) => Found::Refused(k),
         Gate::Open => walking::walk_bwd(words, n, nodes, block, i, r),
     }

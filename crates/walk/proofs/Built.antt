@@ -19,9 +19,9 @@ use Rattle.stretch.specs.Numbers.{numbersOf}
 use Rattle.stretch.specs.Scan.{passed}
 use Rattle.stretch.proofs.Parts.{onward}
 use Rattle.stretch.proofs.Meets.{found}
-use Rattle.mmt.specs.Layout.{count}
+use Rattle.layout.specs.Layout.{count}
 use Rattle.mmt.specs.Nodes.{nodeAt, AsBuilt}
-use Rattle.mmt.proofs.Places.{Place, place-up}
+use Rattle.layout.proofs.Places.{Place, place-up}
 use Rattle.mmt.proofs.Covered.{startOf, top, start-child, start-le, start-mono, absent, node-is}
 use Rattle.walk.specs.Walk.{fits, last, sibling, climb, nearer, farther, descend, land, after}
 use Rattle.walk.proofs.Ways.{kin, near-place, far-place, side-place}

@@ -22,10 +22,10 @@ use Rattle.stretch.specs.declared.bits.Scanned.{Scanned}
 use Rattle.stretch.specs.declared.bits.Scanned.the-variants.{Hit, Left}
 use Rattle.stretch.specs.Scan.{place, passed, scan}
 use Rattle.stretch.proofs.Meets.{scan-nearest}
-use Rattle.mmt.specs.Layout.{inner, count}
+use Rattle.layout.specs.Layout.{inner, count}
 use Rattle.mmt.specs.Nodes.{nodeAt}
-use Rattle.mmt.proofs.Powers.{leaves-in}
-use Rattle.mmt.proofs.Places.{Place, place-up}
+use Rattle.layout.proofs.Powers.{leaves-in}
+use Rattle.layout.proofs.Places.{Place, place-up}
 use Rattle.mmt.proofs.Covered.{startOf, top, start-child, start-le, start-mono}
 use Rattle.walk.specs.Walk.{fits, holdsOn, Climb, last, sibling, climb, Descent, nearer, farther, descend, far, ends, startBlock, startScan, Walk, inLeaf, land, after, inStart, walk}
 use Rattle.walk.proofs.Ways.{near-place, far-place, side-place, chosen}

@@ -28,12 +28,12 @@ use Rattle.stretch.specs.Scan.{passed, scan}
 use Rattle.stretch.proofs.Parts.{onward}
 use Rattle.stretch.proofs.Meets.{found, scan-nearest, scan-leaves}
 use Rattle.stretch.proofs.Covers.{skip-far}
-use Rattle.mmt.specs.declared.layout.Layout.{Layout}
-use Rattle.mmt.specs.Layout.{leaves, inner, count}
+use Rattle.layout.specs.declared.Layout.{Layout}
+use Rattle.layout.specs.Layout.{leaves, inner, count}
 use Rattle.mmt.specs.Nodes.{nodeAt, AsBuilt}
-use Rattle.mmt.proofs.Powers.{leaves-in, leaves-out, inner-top, inner-room}
-use Rattle.mmt.proofs.Admitted.{layout-none}
-use Rattle.mmt.proofs.Places.{count-is, place-of}
+use Rattle.layout.proofs.Powers.{leaves-in, leaves-out, inner-top, inner-room}
+use Rattle.layout.proofs.Admitted.{layout-none}
+use Rattle.layout.proofs.Places.{count-is, place-of}
 use Rattle.mmt.proofs.Covered.{top}
 use Rattle.walk.specs.Walk.{holdsOn, far, ends, startBlock, startScan, inStart, walk}
 use Rattle.walk.proofs.Told.{here, past}

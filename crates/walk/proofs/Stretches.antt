@@ -20,9 +20,9 @@ use Rattle.stretch.specs.declared.bits.Scanned.{Scanned}
 use Rattle.stretch.specs.declared.bits.Scanned.the-variants.{Left}
 use Rattle.stretch.specs.Scan.{scan}
 use Rattle.stretch.proofs.Parts.{onward, scan-split}
-use Rattle.mmt.specs.Layout.{leaves, innerFor, inner, count}
-use Rattle.mmt.proofs.Powers.{inner-top, inner-room}
-use Rattle.mmt.proofs.Places.{inner-is, count-is, blockAt, block-in, block-out, reach, reach-next, Place, place-ge, place-leaf, leaf-place}
+use Rattle.layout.specs.Layout.{leaves, innerFor, inner, count}
+use Rattle.layout.proofs.Powers.{inner-top, inner-room}
+use Rattle.layout.proofs.Places.{inner-is, count-is, blockAt, block-in, block-out, reach, reach-next, Place, place-ge, place-leaf, leaf-place}
 use Rattle.mmt.proofs.Covered.{startOf, top, start-child, start-le, start-mono, start-leaf}
 use Rattle.walk.specs.Walk.{last, sibling, nearer, farther}
 

@@ -9,7 +9,7 @@ use Prim.Native.Nat.{ℕ, suc, _-_, _/_, _%_}
 use native.Mathlib.Omega.{arith}
 use borrow.Author.Tests.{eqb-false}
 use Rattle.row.specs.Way.{Way, forward, backward}
-use Rattle.mmt.proofs.Places.{Place, place-left, place-right, place-up}
+use Rattle.layout.proofs.Places.{Place, place-left, place-right, place-up}
 use Rattle.walk.specs.Walk.{last, sibling, nearer, farther}
 
 pub kin : (w : Way) (k : ℕ) → (k ≡ 0 → ⊥) → last w k ≡ false → (k ≡ nearer w ((k - 1) / 2)) × (sibling w k ≡ farther w ((k - 1) / 2))

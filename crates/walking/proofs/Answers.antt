@@ -27,11 +27,11 @@ use Rattle.row.specs.Way.{Way}
 use Rattle.stretch.specs.declared.bits.Scanned.{Scanned}
 use Rattle.stretch.specs.declared.bits.Scanned.the-variants.{Hit, Left}
 use Rattle.stretch.specs.Scan.{scan}
-use Rattle.mmt.specs.declared.layout.Layout.{Layout}
-use Rattle.mmt.specs.Layout.{leaves, layoutOf, inner, count}
-use Rattle.mmt.proofs.Powers.{inner-top, leaves-out}
-use Rattle.mmt.proofs.Admitted.{count-small}
-use Rattle.mmt.proofs.Places.{inner-is, count-is, place-leaf}
+use Rattle.layout.specs.declared.Layout.{Layout}
+use Rattle.layout.specs.Layout.{leaves, layoutOf, inner, count}
+use Rattle.layout.proofs.Powers.{inner-top, leaves-out}
+use Rattle.layout.proofs.Admitted.{count-small}
+use Rattle.layout.proofs.Places.{inner-is, count-is, place-leaf}
 use Rattle.mmt.proofs.Covered.{top}
 use Rattle.walk.specs.Walk.{Climb, turn, out, misfit, climb, Descent, leaf, lost, descend, ends, startBlock, startScan, inLeaf, land, beyond, inStart, walk}
 use Rattle.walk.proofs.Stretches.{block-place}

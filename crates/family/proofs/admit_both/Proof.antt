@@ -5,7 +5,7 @@ use borrow.Author.Needs.{needs}
 use Rattle.row.specs.declared.gate.Gate.{Gate}
 use Rattle.row.specs.declared.gate.Gate.the-variants.{Open}
 use Rattle.row.specs.Gates.{handleGate, andThen}
-use Rattle.mmt.specs.Layout.{nodesGate}
+use Rattle.layout.specs.Layout.{nodesGate}
 use Rattle.search.proofs.Nodes.{passed-fine, then-then}
 use Rattle.family.proofs.admit_both.Statement.{statement}
 use Rattle.family.proofs.admit_both.Tie as tie

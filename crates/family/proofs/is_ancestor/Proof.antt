@@ -5,7 +5,7 @@ use borrow.Author.Needs.{needs}
 use Rattle.row.specs.declared.gate.Gate.{Gate}
 use Rattle.row.specs.declared.gate.Gate.the-variants.{Open}
 use Rattle.row.specs.Gates.{andThen}
-use Rattle.mmt.specs.Layout.{nodesGate}
+use Rattle.layout.specs.Layout.{nodesGate}
 use Rattle.family.specs.Family.{bothGate}
 use Rattle.search.proofs.Nodes.{passed-fine}
 use Rattle.family.proofs.Ancestor.{ancestor-shut, ancestor-open}

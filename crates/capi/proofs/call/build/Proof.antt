@@ -10,8 +10,8 @@ use Rattle.row.specs.declared.gate.Gate.{Gate}
 use Rattle.row.specs.declared.gate.Gate.the-variants.{Open}
 use Rattle.row.specs.Answer.{at, paperBuilt}
 use Rattle.row.specs.Gates.{through}
-use Rattle.mmt.specs.Layout.{nodesGate}
-use Rattle.mmt.proofs.Admitted.{gate-fine}
+use Rattle.layout.specs.Layout.{nodesGate}
+use Rattle.layout.proofs.Admitted.{gate-fine}
 use Rattle.wire.specs.Answer.{wireOf}
 use Rattle.capi.proofs.Passed.{built-open, bytes-open, bytes-shut}
 use borrow.Author.Needs.{needs}

@@ -4,8 +4,8 @@ use lib.ListN.{length}
 use borrow.Author.Needs.{needs}
 use Rattle.row.specs.declared.gate.Gate.{Gate}
 use Rattle.row.specs.declared.gate.Gate.the-variants.{Open, Shut}
-use Rattle.mmt.specs.Layout.{nodesGate}
-use Rattle.mmt.proofs.Admitted.{gate-fine}
+use Rattle.layout.specs.Layout.{nodesGate}
+use Rattle.layout.proofs.Admitted.{gate-fine}
 use Rattle.mmt.proofs.Filled.{when-open, when-shut}
 use Rattle.mmt.proofs.builder.build.Statement.{statement}
 use Rattle.mmt.proofs.builder.build.Tie as tie

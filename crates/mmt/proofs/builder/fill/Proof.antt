@@ -4,9 +4,9 @@ use Prim.Native.Nat.{_+_}
 use native.Mathlib.Nat.{add-comm}
 use native.Mathlib.Omega.{arith}
 use borrow.Author.Needs.{needs}
-use Rattle.mmt.specs.declared.layout.Layout.{Layout}
-use Rattle.mmt.specs.Layout.{inner, count}
-use Rattle.mmt.proofs.Admitted.{count-small}
+use Rattle.layout.specs.declared.Layout.{Layout}
+use Rattle.layout.specs.Layout.{inner, count}
+use Rattle.layout.proofs.Admitted.{count-small}
 use Rattle.mmt.proofs.builder.fill.Statement.{statement}
 use Rattle.mmt.proofs.builder.fill.Tie as tie
 

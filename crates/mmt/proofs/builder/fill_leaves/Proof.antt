@@ -5,9 +5,9 @@ use Prim.Native.Nat.{_-_, _≤_}
 use borrow.Author.Needs.{needs}
 use native.Mathlib.Omega.{arith}
 use lib.ListN.{length}
-use Rattle.mmt.specs.Layout.{leaves}
+use Rattle.layout.specs.Layout.{leaves}
 use Rattle.mmt.specs.Filling.{Filled}
-use Rattle.mmt.proofs.Powers.{leaves-in}
+use Rattle.layout.proofs.Powers.{leaves-in}
 use Rattle.mmt.proofs.Nodes.{put-length}
 use Rattle.mmt.proofs.Filled.{filled-more}
 use Rattle.mmt.proofs.builder.fill_leaves.Statement.{statement}

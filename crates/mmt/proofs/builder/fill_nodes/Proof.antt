@@ -4,9 +4,9 @@ use Prim.Native.Nat.{_-_, _*_}
 use borrow.Author.Needs.{needs}
 use native.Mathlib.Omega.{arith}
 use lib.ListN.{length, take, drop, length-take, length-drop}
-use Rattle.mmt.specs.Layout.{width, leaves, inner}
+use Rattle.layout.specs.Layout.{width, leaves, inner}
 use Rattle.mmt.specs.Filling.{Leveled}
-use Rattle.mmt.proofs.Admitted.{layout-leaves}
+use Rattle.layout.proofs.Admitted.{layout-leaves}
 use Rattle.mmt.proofs.Filled.{back, leveled-on, leaves-leveled, leveled-written}
 use Rattle.mmt.proofs.builder.fill_nodes.Statement.{statement}
 use Rattle.mmt.proofs.builder.fill_nodes.Tie as tie

@@ -3,8 +3,8 @@ use mathlib.Core.Path.{_≡_, sym, _∙_}
 use borrow.Author.Needs.{needs}
 use lib.ListN.{length}
 use Rattle.row.specs.declared.gate.Gate.the-variants.{Open}
-use Rattle.mmt.specs.Layout.{nodesGate}
-use Rattle.mmt.proofs.Admitted.{gate-fine}
+use Rattle.layout.specs.Layout.{nodesGate}
+use Rattle.layout.proofs.Admitted.{gate-fine}
 use Rattle.mmt.proofs.Tested.{when-shut, when-built, when-not}
 use Rattle.mmt.proofs.check.as_built.Statement.{statement}
 use Rattle.mmt.proofs.check.as_built.Tie as tie

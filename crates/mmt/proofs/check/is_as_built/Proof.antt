@@ -3,9 +3,9 @@ use mathlib.Core.Path.{_≡_, ap}
 use Prim.Native.Nat.{_+_}
 use native.Mathlib.Omega.{arith}
 use borrow.Author.Needs.{needs}
-use Rattle.mmt.specs.declared.layout.Layout.{Layout}
-use Rattle.mmt.specs.Layout.{count}
-use Rattle.mmt.proofs.Admitted.{count-small}
+use Rattle.layout.specs.declared.Layout.{Layout}
+use Rattle.layout.specs.Layout.{count}
+use Rattle.layout.proofs.Admitted.{count-small}
 use Rattle.mmt.proofs.check.is_as_built.Statement.{statement}
 use Rattle.mmt.proofs.check.is_as_built.Tie as tie
 

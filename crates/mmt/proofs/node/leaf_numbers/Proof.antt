@@ -4,7 +4,7 @@ use Prim.Native.Nat.{_-_, _*_, min}
 use borrow.Author.Needs.{needs}
 use native.Mathlib.Omega.{arith}
 use Rattle.mmt.specs.Nodes.{leafOf}
-use Rattle.mmt.proofs.Powers.{block-edge}
+use Rattle.layout.proofs.Powers.{block-edge}
 use Rattle.mmt.proofs.node.leaf_numbers.Statement.{statement}
 use Rattle.mmt.proofs.node.leaf_numbers.Tie as tie
 

@@ -3,11 +3,11 @@
 use mathlib.Core.Path.{sym, ap, _∙_}
 use Prim.Native.Nat.{ℕ, _+_, _-_, _*_, _≤_, _<_}
 use native.Mathlib.Omega.{arith}
-use Rattle.mmt.specs.Layout.{inner, count}
+use Rattle.layout.specs.Layout.{inner, count}
 use Rattle.mmt.specs.Nodes.{nodeAt, leafOf, innerOf}
-use Rattle.mmt.proofs.Admitted.{counted}
+use Rattle.layout.proofs.Admitted.{counted}
 use Rattle.mmt.proofs.Nodes.{from-inner, from-leaf}
-use Rattle.mmt.proofs.Places.{leaf-in}
+use Rattle.layout.proofs.Places.{leaf-in}
 use Rattle.mmt.proofs.Covered.{ruled-tame}
 use Rattle.mmt.proofs.node.wanted.Statement.{statement}
 use Rattle.mmt.proofs.node.wanted.Tie as tie

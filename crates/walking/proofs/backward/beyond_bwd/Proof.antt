@@ -6,7 +6,7 @@ use borrow.Author.Needs.{needs}
 use mir.Syntax.{w64}
 use mir.ValLaws.{toZ-ofZ}
 use Rattle.row.specs.Way.{backward}
-use Rattle.mmt.specs.Layout.{inner, count}
+use Rattle.layout.specs.Layout.{inner, count}
 use Rattle.mmt.proofs.Covered.{top}
 use Rattle.walk.specs.Walk.{climb, descend}
 use Rattle.examine.specs.Asked.{Room}

@@ -13,7 +13,7 @@ use Rattle.row.specs.Bits.{bitAt}
 use Rattle.row.specs.Way.{backward}
 use Rattle.stretch.specs.Scan.{scan}
 use Rattle.scan.proofs.Pieces.{Reading, reading-start, part-hit, part-on}
-use Rattle.mmt.proofs.Powers.{leaves-in}
+use Rattle.layout.proofs.Powers.{leaves-in}
 use Rattle.walk.specs.Walk.{ends}
 use Rattle.walk.proofs.Right.{high, start-in}
 use Rattle.walking.proofs.Edges.{edge-bwd-in, head-bwd}

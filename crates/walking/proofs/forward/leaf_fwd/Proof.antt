@@ -8,8 +8,8 @@ use mir.ValLaws.{toZ-ofZ}
 use Rattle.row.specs.Bits.{bitAt}
 use Rattle.row.specs.Way.{forward}
 use Rattle.stretch.specs.Scan.{scan}
-use Rattle.mmt.specs.Layout.{inner}
-use Rattle.mmt.proofs.Places.{leaf-in}
+use Rattle.layout.specs.Layout.{inner}
+use Rattle.layout.proofs.Places.{leaf-in}
 use Rattle.walking.proofs.Answers.{leaf-hit, leaf-left}
 use Rattle.walking.proofs.forward.leaf_fwd.Statement.{statement}
 use Rattle.walking.proofs.forward.leaf_fwd.Tie as tie

@@ -1,12 +1,12 @@
--- `mmt::layout_of` meets its contract: no nodes for no bits, else the two counts. Assumes nothing.
+-- `layout::layout_of` meets its contract: no nodes for no bits, else the two counts. Assumes nothing.
 use mathlib.Core.Path.{_∙_}
 use native.Mathlib.Omega.{arith}
 use borrow.Author.Needs.{needs}
-use Rattle.mmt.specs.Layout.{leaves}
-use Rattle.mmt.proofs.Powers.{leaves-small}
-use Rattle.mmt.proofs.Admitted.{layout-none, layout-some}
-use Rattle.mmt.proofs.layout.layout_of.Statement.{statement}
-use Rattle.mmt.proofs.layout.layout_of.Tie as tie
+use Rattle.layout.specs.Layout.{leaves}
+use Rattle.layout.proofs.Powers.{leaves-small}
+use Rattle.layout.proofs.Admitted.{layout-none, layout-some}
+use Rattle.layout.proofs.layout_of.Statement.{statement}
+use Rattle.layout.proofs.layout_of.Tie as tie
 
 returns : tie.Need-returns
 returns c = layout-none _ _ (c .if1 .taken)

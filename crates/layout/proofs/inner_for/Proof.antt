@@ -1,13 +1,13 @@
--- `mmt::inner_for` meets its contract: with l - 1 below 2 ^ m, and no lower m, a word of ones shifted right by 64 - m is
+-- `layout::inner_for` meets its contract: with l - 1 below 2 ^ m, and no lower m, a word of ones shifted right by 64 - m is
 -- 2 ^ m - 1. Assumes nothing.
 use mathlib.Core.Path.{_≡_, ap, _∙_}
 use Prim.Native.Nat.{ℕ, zero, suc, _+_, _-_, _*_, _/_, _^_, _≤_, _<_}
 use native.Mathlib.Omega.{arith}
 use borrow.Author.Needs.{needs}
 use lib.Count.{leadingZeros, leading-length}
-use Rattle.mmt.proofs.Powers.{inner-one, inner-many, shifted}
-use Rattle.mmt.proofs.layout.inner_for.Statement.{statement}
-use Rattle.mmt.proofs.layout.inner_for.Tie as tie
+use Rattle.layout.proofs.Powers.{inner-one, inner-many, shifted}
+use Rattle.layout.proofs.inner_for.Statement.{statement}
+use Rattle.layout.proofs.inner_for.Tie as tie
 
 -- the digits of l - 1
 digits : (c : tie.Else1) → let a = c .before .args .l - 1 in (m : ℕ) × (leadingZeros 64 a + m ≡ 64) × (a < 2 ^ m) × (2 ^ m ≤ 2 * a + 1)

@@ -8,7 +8,7 @@ use Rattle.row.specs.declared.refusal.Refusal.the-variants.{BlockSize, TooFewNo
 use Rattle.row.specs.declared.gate.Gate.{Gate}
 use Rattle.row.specs.declared.gate.Gate.the-variants.{Open, Shut}
 use Rattle.row.specs.Gates.{rowGate, andThen}
-use Rattle.mmt.specs.declared.layout.Layout.{Layout}
+use Rattle.layout.specs.declared.Layout.{Layout}
 
 -- a node takes three numbers
 abbrev pub width : ℕ

@@ -1,8 +1,8 @@
--- `mmt::admit_block` meets its contract: each return by the tests that led there. Assumes nothing.
+-- `layout::admit_block` meets its contract: each return by the tests that led there. Assumes nothing.
 use native.Mathlib.Omega.{arith}
-use Rattle.mmt.proofs.Admitted.{block-zero, block-large, block-odd, block-open}
-use Rattle.mmt.proofs.layout.admit_block.Statement.{statement}
-use Rattle.mmt.proofs.layout.admit_block.Tie as tie
+use Rattle.layout.proofs.Admitted.{block-zero, block-large, block-odd, block-open}
+use Rattle.layout.proofs.admit_block.Statement.{statement}
+use Rattle.layout.proofs.admit_block.Tie as tie
 
 returns : tie.Need-returns
 returns c = block-zero _ (c .if1 .taken)

@@ -16,9 +16,9 @@ use Rattle.row.specs.declared.gate.Gate.{Gate}
 use Rattle.row.specs.declared.gate.Gate.the-variants.{Open, Shut}
 use Rattle.row.specs.Gates.{wordsFor, rowGate, andThen}
 use Rattle.row.proofs.Gates.{row-fits, row-open}
-use Rattle.mmt.specs.declared.layout.Layout.{Layout}
-use Rattle.mmt.specs.Layout.{width, leaves, innerFor, layoutOf, count, blockGate, roomGate, nodesGate, Fine}
-use Rattle.mmt.proofs.Powers.{leaves-in, leaves-small, inner-small}
+use Rattle.layout.specs.declared.Layout.{Layout}
+use Rattle.layout.specs.Layout.{width, leaves, innerFor, layoutOf, count, blockGate, roomGate, nodesGate, Fine}
+use Rattle.layout.proofs.Powers.{leaves-in, leaves-small, inner-small}
 
 -- ---- the layout
 pub layout-none : (n B : ℕ) → n ≡ 0 → record { leaves = 0; inner = 0 } ≡ layoutOf n B

@@ -1,13 +1,13 @@
--- `mmt::admit` meets its contract: refusal 1, then 2 and 3, then 4. Assumes nothing.
+-- `layout::admit` meets its contract: refusal 1, then 2 and 3, then 4. Assumes nothing.
 use mathlib.Core.Path.{_≡_, sym, _∙_}
 use borrow.Author.Needs.{needs}
 use Rattle.row.specs.declared.gate.Gate.the-variants.{Open}
 use Rattle.row.specs.Gates.{rowGate}
 use Rattle.row.proofs.Gates.{row-fits}
-use Rattle.mmt.specs.Layout.{blockGate}
-use Rattle.mmt.proofs.Admitted.{block-fits, gate-block, gate-row, gate-room}
-use Rattle.mmt.proofs.layout.admit.Statement.{statement}
-use Rattle.mmt.proofs.layout.admit.Tie as tie
+use Rattle.layout.specs.Layout.{blockGate}
+use Rattle.layout.proofs.Admitted.{block-fits, gate-block, gate-row, gate-room}
+use Rattle.layout.proofs.admit.Statement.{statement}
+use Rattle.layout.proofs.admit.Tie as tie
 
 -- the block size is right; the row too
 sized : (c : tie.After-enum-told) → blockGate (c .before .before .before .args .block) ≡ Open

@@ -11,10 +11,10 @@ use native.Mathlib.Omega.{arith}
 use native.Mathlib.Nat.{suc-mul, mul-assoc, mul-comm, pow-succ', mul-le-mul-right}
 use native.Mathlib.Decide.{decLt}
 use lib.Pow.{pow-mono, pow-add}
-use Rattle.mmt.specs.declared.layout.Layout.{Layout}
-use Rattle.mmt.specs.Layout.{leaves, innerFor, inner, count}
-use Rattle.mmt.proofs.Powers.{leaves-in, leaves-out}
-use Rattle.mmt.proofs.Admitted.{layout-some, counted}
+use Rattle.layout.specs.declared.Layout.{Layout}
+use Rattle.layout.specs.Layout.{leaves, innerFor, inner, count}
+use Rattle.layout.proofs.Powers.{leaves-in, leaves-out}
+use Rattle.layout.proofs.Admitted.{layout-some, counted}
 
 -- ---- the counts
 module _ (n B : ℕ) (some : 0 < n) where

@@ -13,7 +13,7 @@ use native.Mathlib.Decide.{decLt}
 use borrow.Author.Tests.{leb-true, leb-false}
 use lib.Dec.{leb}
 use lib.Pow.{pow-pos, pow-mono, high, ones-split, ones-lt}
-use Rattle.mmt.specs.Layout.{leaves, exponent, power, innerFor}
+use Rattle.layout.specs.Layout.{leaves, exponent, power, innerFor}
 
 -- ---- the least power of two
 lt-pow : (d : ℕ) → d < 2 ^ d

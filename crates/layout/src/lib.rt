@@ -1,10 +1,13 @@
-// Where the nodes stand: leaves after inner nodes, the children of node k at 2k+1 and 2k+2.
+// Where the nodes stand in a lent buffer: leaves after inner nodes, the children of node k at 2k+1 and 2k+2; and the one tested
+// step, refusals 1 to 4 in their order, that every call over nodes shares.
 ghost use mathlib.Core.Path.{_≡_};
 ghost use Prim.Native.Nat.{_≤_};
-ghost use Rattle.mmt.specs.Layout.{innerFor, layoutOf, blockGate, roomGate, nodesGate};
-use crate::node::WIDTH;
+ghost use Rattle.layout.specs.Layout.{innerFor, layoutOf, blockGate, roomGate, nodesGate};
 use row::Gate;
 use row::Refusal;
+
+// How many numbers a node takes.
+pub const WIDTH: usize = 3;
 
 pub struct Layout {
     pub leaves: usize,

@@ -1,13 +1,13 @@
--- `mmt::admit_room` meets its contract: the nodes that there is room for are counted. Assumes nothing.
+-- `layout::admit_room` meets its contract: the nodes that there is room for are counted. Assumes nothing.
 use mathlib.Core.Path.{_≡_, ap}
 use Prim.Native.Nat.{_+_}
 use native.Mathlib.Omega.{arith}
 use borrow.Author.Needs.{needs}
-use Rattle.mmt.specs.declared.layout.Layout.{Layout}
-use Rattle.mmt.specs.Layout.{count}
-use Rattle.mmt.proofs.Admitted.{count-small, room-few, room-open}
-use Rattle.mmt.proofs.layout.admit_room.Statement.{statement}
-use Rattle.mmt.proofs.layout.admit_room.Tie as tie
+use Rattle.layout.specs.declared.Layout.{Layout}
+use Rattle.layout.specs.Layout.{count}
+use Rattle.layout.proofs.Admitted.{count-small, room-few, room-open}
+use Rattle.layout.proofs.admit_room.Statement.{statement}
+use Rattle.layout.proofs.admit_room.Tie as tie
 
 -- the nodes of the layout
 all : (c : tie.After-layout-of) → c .layout-of .result .leaves + c .layout-of .result .inner ≡ count (c .before .args .n) (c .before .args .block)
