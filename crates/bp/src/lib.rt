@@ -4,10 +4,7 @@
 pub use family::first_child;
 pub use family::is_ancestor;
 pub use family::is_leaf;
-pub use family::last_child;
-pub use family::next_sibling;
 pub use family::parent;
-pub use family::previous_sibling;
 pub use family::root;
 pub use level::level_ancestor;
 pub use level::level_leftmost;
@@ -20,3 +17,6 @@ pub use search::close;
 pub use search::enclose;
 pub use search::fwd_search;
 pub use search::open;
+pub use sibling::last_child;
+pub use sibling::next_sibling;
+pub use sibling::previous_sibling;

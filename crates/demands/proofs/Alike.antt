@@ -34,6 +34,7 @@ use Rattle.search.specs.Composed.{Searches, walked}
 use Rattle.search.specs.Searches.{searchAnswer, outward}
 use Rattle.search.specs.Handles.{handleAnswer, nodeAnswer}
 use Rattle.family.specs.Family as family
+use Rattle.sibling.specs.Siblings as sibling
 use Rattle.family.specs.Family.{bothGate, ancestorAnswer}
 use Rattle.level.specs.Levels as level
 use Rattle.level.specs.Levels.{inRow, rootStart, levelAnswer, rightmostAnswer}
@@ -199,9 +200,9 @@ module _ (ws vs : List ℕ) (n : ℕ) (s t : List ℤ) (B : ℕ) (row : RowAlike
   answers-same root h = ap (λ (g : Gate). through g (family.root n)) (row .gate)
   answers-same (parent v) h = node-same ws vs n s t B (h refl) family.parent (parent-same ws vs n) v
   answers-same (firstChild v) h = handle-same ws vs n row family.firstChild (first-child-same ws vs n) v
-  answers-same (lastChild v) h = node-same ws vs n s t B (h refl) family.lastChild (last-child-same ws vs n) v
-  answers-same (nextSibling v) h = node-same ws vs n s t B (h refl) family.nextSibling (next-sibling-same ws vs n) v
-  answers-same (previousSibling v) h = node-same ws vs n s t B (h refl) family.previousSibling (previous-sibling-same ws vs n) v
+  answers-same (lastChild v) h = node-same ws vs n s t B (h refl) sibling.lastChild (last-child-same ws vs n) v
+  answers-same (nextSibling v) h = node-same ws vs n s t B (h refl) sibling.nextSibling (next-sibling-same ws vs n) v
+  answers-same (previousSibling v) h = node-same ws vs n s t B (h refl) sibling.previousSibling (previous-sibling-same ws vs n) v
   answers-same (isLeaf v) h = handle-same ws vs n row family.isLeaf (is-leaf-same ws vs n) v
   answers-same (isAncestor a d) h = both-same ws vs n s t B (h refl) a d
   answers-same (levelAncestor v k) h = node-same ws vs n s t B (h refl) (level.levelAncestor k) (λ b S u. refl) v

@@ -16,6 +16,7 @@ use Rattle.row.specs.Way.{Way, forward, backward}
 use Rattle.layout.specs.Layout.{nodesGate}
 use Rattle.walk.specs.Walk.{walk}
 use Rattle.family.specs.Family as family
+use Rattle.sibling.specs.Siblings as sibling
 use Rattle.level.specs.Levels as level
 use Rattle.search.specs.Composed.{Searches, walked}
 use Rattle.search.specs.Searches.{searchAnswer, outward}
@@ -118,9 +119,9 @@ module _ (ws : List ℕ) (n : ℕ) (s : List ℤ) (B : ℕ) where
   answers-may root = may-through (2 ∷ 3 ∷ []) n row (family.root n) (shut-row (2 ∷ 3 ∷ []) (length ws) n one two) (λ g. may-root (2 ∷ 3 ∷ []) ws n)
   answers-may (parent v) = node-may family.parent v (λ h. may-parent (8 ∷ []) ws n walks fwd-may bwd-may v)
   answers-may (firstChild v) = bare-may n family.firstChild v (may-first-child bare ws n v)
-  answers-may (lastChild v) = node-may family.lastChild v (λ h. may-last-child (8 ∷ []) ws n walks fwd-may bwd-may v)
-  answers-may (nextSibling v) = node-may family.nextSibling v (λ h. may-next-sibling (8 ∷ []) ws n walks fwd-may bwd-may v)
-  answers-may (previousSibling v) = node-may family.previousSibling v (λ h. may-previous-sibling (8 ∷ []) ws n walks fwd-may bwd-may v)
+  answers-may (lastChild v) = node-may sibling.lastChild v (λ h. may-last-child (8 ∷ []) ws n walks fwd-may bwd-may v)
+  answers-may (nextSibling v) = node-may sibling.nextSibling v (λ h. may-next-sibling (8 ∷ []) ws n walks fwd-may bwd-may v)
+  answers-may (previousSibling v) = node-may sibling.previousSibling v (λ h. may-previous-sibling (8 ∷ []) ws n walks fwd-may bwd-may v)
   answers-may (isLeaf v) = bare-may 2 family.isLeaf v (may-leaf bare ws n v)
   answers-may (isAncestor a d) = ancestor-may a d
   answers-may (levelAncestor v k) =

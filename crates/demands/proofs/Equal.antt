@@ -19,6 +19,7 @@ use Rattle.mmt.specs.Nodes.{AsBuilt}
 use Rattle.layout.proofs.Admitted.{fine-gate}
 use Rattle.walk.proofs.Right.{walk-forward, walk-backward}
 use Rattle.family.specs.Family as family
+use Rattle.sibling.specs.Siblings as sibling
 use Rattle.level.specs.Levels as level
 use Rattle.search.specs.Composed.{Searches, walked, defined}
 use Rattle.search.specs.Searches.{searchAnswer, outward}
@@ -78,9 +79,9 @@ module _ (ws : List ℕ) (n : ℕ) (s : List ℤ) (B : ℕ) (fine : Fine (length
   equal root = rw row
   equal (parent v) = node-equal family.parent v
   equal (firstChild v) = handle-equal family.firstChild v
-  equal (lastChild v) = node-equal family.lastChild v
-  equal (nextSibling v) = node-equal family.nextSibling v
-  equal (previousSibling v) = node-equal family.previousSibling v
+  equal (lastChild v) = node-equal sibling.lastChild v
+  equal (nextSibling v) = node-equal sibling.nextSibling v
+  equal (previousSibling v) = node-equal sibling.previousSibling v
   equal (isLeaf v) = handle-equal family.isLeaf v
   equal (isAncestor a d) = ancestor-equal a d
   equal (levelAncestor v k) = node-equal (level.levelAncestor k) v
@@ -126,9 +127,9 @@ module _ (ws : List ℕ) (n : ℕ) where
   defined-may root = may-root bad ws n
   defined-may (parent v) = node-may family.parent v (λ h. may-parent bad ws n (defined ws n) ahead-may behind-may v)
   defined-may (firstChild v) = held-may n v (family.firstChild ws n v) (λ h. may-first-child bad ws n v)
-  defined-may (lastChild v) = node-may family.lastChild v (λ h. may-last-child bad ws n (defined ws n) ahead-may behind-may v)
-  defined-may (nextSibling v) = node-may family.nextSibling v (λ h. may-next-sibling bad ws n (defined ws n) ahead-may behind-may v)
-  defined-may (previousSibling v) = node-may family.previousSibling v (λ h. may-previous-sibling bad ws n (defined ws n) ahead-may behind-may v)
+  defined-may (lastChild v) = node-may sibling.lastChild v (λ h. may-last-child bad ws n (defined ws n) ahead-may behind-may v)
+  defined-may (nextSibling v) = node-may sibling.nextSibling v (λ h. may-next-sibling bad ws n (defined ws n) ahead-may behind-may v)
+  defined-may (previousSibling v) = node-may sibling.previousSibling v (λ h. may-previous-sibling bad ws n (defined ws n) ahead-may behind-may v)
   defined-may (isLeaf v) = held-may 2 v (family.isLeaf ws n v) (λ h. may-leaf bad ws n v)
   defined-may (isAncestor a d) = both-may a d
   defined-may (levelAncestor v k) =

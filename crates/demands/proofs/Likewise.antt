@@ -23,7 +23,8 @@ use Rattle.mmt.specs.Check.{sameNumbers, builtTest}
 use Rattle.mmt.proofs.Nodes.{from-ext}
 use Rattle.search.specs.Composed.{Searches}
 use Rattle.search.specs.Searches.{outward}
-use Rattle.family.specs.Family.{firstChild, isLeaf, parent, lastChild, nextSibling, previousSibling}
+use Rattle.family.specs.Family.{firstChild, isLeaf, parent}
+use Rattle.sibling.specs.Siblings.{lastChild, nextSibling, previousSibling}
 use Rattle.demands.proofs.Unread.{Alike}
 
 all-same : (p q : ℕ → Bool) (c : ℕ) → ((k : ℕ) → k < c → p k ≡ q k) → allBelow p c ≡ allBelow q c

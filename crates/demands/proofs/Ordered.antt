@@ -14,6 +14,7 @@ use Rattle.row.specs.Way.{Way, forward, backward}
 use Rattle.layout.specs.Layout.{nodesGate}
 use Rattle.walk.specs.Walk.{walk}
 use Rattle.family.specs.Family as family
+use Rattle.sibling.specs.Siblings as sibling
 use Rattle.level.specs.Levels as level
 use Rattle.search.specs.Composed.{Searches, walked}
 use Rattle.search.specs.Searches.{searchAnswer, outward}
@@ -56,9 +57,9 @@ module _ (ws : List ℕ) (n : ℕ) (s : List ℤ) (B : ℕ) where
   order-of root = rw then-open at (row-order ws n s B n [] Open (family.root n) (λ v i f. absurd (List·Memᴰ·not-nil i)))
   order-of (parent v) = node-order family.parent v
   order-of (firstChild v) = bare-order n family.firstChild v
-  order-of (lastChild v) = node-order family.lastChild v
-  order-of (nextSibling v) = node-order family.nextSibling v
-  order-of (previousSibling v) = node-order family.previousSibling v
+  order-of (lastChild v) = node-order sibling.lastChild v
+  order-of (nextSibling v) = node-order sibling.nextSibling v
+  order-of (previousSibling v) = node-order sibling.previousSibling v
   order-of (isLeaf v) = bare-order 2 family.isLeaf v
   order-of (isAncestor a d) = nodes-order ws n s B 2 (a ∷ d ∷ []) (bothGate ws n a d) (family.isAncestor ws n walks a d) (refuses-both ws n a d)
   order-of (levelAncestor v k) = node-order (level.levelAncestor k) v

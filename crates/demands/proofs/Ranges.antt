@@ -16,7 +16,8 @@ use Rattle.row.specs.Answer.{Answer, at, nothing, refused}
 use Rattle.row.specs.Tree.{opens, closes}
 use Rattle.row.proofs.Bools.{and-right}
 use Rattle.search.specs.Composed.{Searches, onward, told, handleAt}
-use Rattle.family.specs.Family.{root, firstChild, isLeaf, parent, lastChild, nextSibling, previousSibling, isAncestor}
+use Rattle.family.specs.Family.{root, firstChild, isLeaf, parent, isAncestor}
+use Rattle.sibling.specs.Siblings.{lastChild, nextSibling, previousSibling}
 use Rattle.level.specs.Levels.{levelNext, levelPrev, levelLeftmost, levelRightmost, levelAncestor}
 use Rattle.search.specs.Searches.{outward}
 use Rattle.demands.specs.Listing.{Among}

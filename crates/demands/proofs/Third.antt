@@ -22,6 +22,7 @@ use Rattle.layout.specs.Layout.{Fine}
 use Rattle.mmt.specs.Nodes.{AsBuilt}
 use Rattle.mmt.specs.Build.{builtNodes}
 use Rattle.family.specs.Family as family
+use Rattle.sibling.specs.Siblings as sibling
 use Rattle.level.specs.Levels as level
 use Rattle.search.specs.Composed.{Searches, defined}
 use Rattle.search.specs.Handles.{nodeDefined}
@@ -74,11 +75,11 @@ module _ (ws : List ℕ) (n : ℕ) where
           let (e, d) = closing ws n t v o in
           rises (childOf ws n v) ask nextSibling n (firstChild v)
           (is (firstChild v) ∙ passed v (family.firstChild ws n v) o ∙ first-child ws n t v e o d)
-          (λ w h. by (nextSibling w) family.nextSibling w refl (kid ws n t v e o d w h .open-is) ∙ next-sibling ws n t v e o d w h);
+          (λ w h. by (nextSibling w) sibling.nextSibling w refl (kid ws n t v e o d w h .open-is) ∙ next-sibling ws n t v e o d w h);
       children-fall = λ v o.
           let (e, d) = closing ws n t v o in
-          falls (childOf ws n v) ask previousSibling n (lastChild v) (by (lastChild v) family.lastChild v refl o ∙ last-child ws n t v e o d)
-          (λ w h. by (previousSibling w) family.previousSibling w refl (kid ws n t v e o d w h .open-is) ∙ previous-sibling ws n t v e o d w h);
+          falls (childOf ws n v) ask previousSibling n (lastChild v) (by (lastChild v) sibling.lastChild v refl o ∙ last-child ws n t v e o d)
+          (λ w h. by (previousSibling w) sibling.previousSibling w refl (kid ws n t v e o d w h .open-is) ∙ previous-sibling ws n t v e o d w h);
       one-parent = λ w o h.
           let (u, p) = parent-of ws n t w o h in
           let l = opens-low ws n w o in (

@@ -10,6 +10,7 @@ use Rattle.row.specs.Gates.{rowGate, handleGate, through}
 use Rattle.row.specs.Search as search
 use Rattle.search.specs.Searches.{fwdAnswer, bwdAnswer, outward}
 use Rattle.family.specs.Family as family
+use Rattle.sibling.specs.Siblings as sibling
 use Rattle.level.specs.Levels as level
 use Rattle.search.specs.Composed.{defined}
 use Rattle.search.specs.Handles.{handleAnswer, nodeAnswer, nodeDefined}
@@ -47,9 +48,9 @@ promised ws n s B (enclose i) = bwdAnswer ws n s B i (outward ws n i)
 promised ws n s B root = through (rowGate (length ws) n) (family.root n)
 promised ws n s B (parent v) = nodeAnswer family.parent ws n s B v
 promised ws n s B (firstChild v) = handleAnswer family.firstChild ws n v
-promised ws n s B (lastChild v) = nodeAnswer family.lastChild ws n s B v
-promised ws n s B (nextSibling v) = nodeAnswer family.nextSibling ws n s B v
-promised ws n s B (previousSibling v) = nodeAnswer family.previousSibling ws n s B v
+promised ws n s B (lastChild v) = nodeAnswer sibling.lastChild ws n s B v
+promised ws n s B (nextSibling v) = nodeAnswer sibling.nextSibling ws n s B v
+promised ws n s B (previousSibling v) = nodeAnswer sibling.previousSibling ws n s B v
 promised ws n s B (isLeaf v) = handleAnswer family.isLeaf ws n v
 promised ws n s B (isAncestor a d) = ancestorAnswer ws n s B a d
 promised ws n s B (levelAncestor v k) = nodeAnswer (level.levelAncestor k) ws n s B v
@@ -68,9 +69,9 @@ definition ws n (enclose i) = search.bwd ws n i (outward ws n i)
 definition ws n root = family.root n
 definition ws n (parent v) = nodeDefined family.parent ws n v
 definition ws n (firstChild v) = through (handleGate ws n v) (family.firstChild ws n v)
-definition ws n (lastChild v) = nodeDefined family.lastChild ws n v
-definition ws n (nextSibling v) = nodeDefined family.nextSibling ws n v
-definition ws n (previousSibling v) = nodeDefined family.previousSibling ws n v
+definition ws n (lastChild v) = nodeDefined sibling.lastChild ws n v
+definition ws n (nextSibling v) = nodeDefined sibling.nextSibling ws n v
+definition ws n (previousSibling v) = nodeDefined sibling.previousSibling ws n v
 definition ws n (isLeaf v) = through (handleGate ws n v) (family.isLeaf ws n v)
 definition ws n (isAncestor a d) = ancestorDefined ws n a d
 definition ws n (levelAncestor v k) = nodeDefined (level.levelAncestor k) ws n v

@@ -2,14 +2,13 @@
 --   said: what a search is, by the case of its answer
 --   opens-past, opens-in, closes-past, closes-not, closes-in: a bit, in the row or past it
 --   root-some, root-none; handle-yes, handle-no; leaf-no, leaf-yes: without a search
---   parent-is; last-bare, last-at, last-nothing, last-refused; next-at, next-nothing, next-refused: by searches
---   previous-first, previous-none, previous-at; ancestor-at, ancestor-nothing, ancestor-refused: by searches too
+--   parent-is; ancestor-at, ancestor-nothing, ancestor-refused: by searches
 --   within-before, within-past, within-yes: whether d lies in a..c
 -- Assumes nothing.
 use mathlib.Core.Path.{_≡_, sym, ap, _∙_}
 use mathlib.Core.Bool.{true, false, _&&_}
 use mathlib.Core.List.{List}
-use Prim.Native.Nat.{ℕ, _+_, _-_, _≤_, _<_}
+use Prim.Native.Nat.{ℕ, _+_, _≤_, _<_}
 use native.Mathlib.Omega.{arith}
 use borrow.Author.Tests.{lt-ltb, le-ltb, le-leb, lt-leb, eqb-true, eqb-false, eq-eqb, ne-eqb}
 use lib.Dec.{eqb, leb, ltb}
@@ -20,7 +19,7 @@ use Rattle.row.specs.Bits.{bitAt}
 use Rattle.row.specs.Tree.{opens, closes}
 use Rattle.search.specs.Searches.{outward}
 use Rattle.search.specs.Composed.{Searches, told, handleAt}
-use Rattle.family.specs.Family.{root, isLeaf, parent, lastChild, nextSibling, previousSibling, isAncestor}
+use Rattle.family.specs.Family.{root, isLeaf, parent, isAncestor}
 
 pub said : {f g : Found} {x : Answer} → paperFound f ≡ x → f ≡ g → x ≡ paperFound g
 said e h = sym e ∙ ap paperFound h
@@ -81,48 +80,6 @@ module _ (ws : List ℕ) (n : ℕ) where
     pub parent-is : opens ws n v ≡ true → s .bwd v (negsuc 0) ≡ parent ws n s v
     unfolding parent outward
     parent-is o = rw (parent, outward, o)
-
-    pub last-bare : opens ws n (v + 1) ≡ false → nothing ≡ lastChild ws n s v
-    unfolding lastChild
-    last-bare o = rw o
-
-    module _ (o : opens ws n (v + 1) ≡ true) where
-      pub last-at : (c : ℕ) → s .fwd v (negsuc 0) ≡ at c → s .bwd (c - 1) (negsuc 0) ≡ lastChild ws n s v
-      unfolding lastChild
-      last-at c e = rw (o, e)
-
-      pub last-nothing : s .fwd v (negsuc 0) ≡ nothing → nothing ≡ lastChild ws n s v
-      unfolding lastChild
-      last-nothing e = rw (o, e)
-
-      pub last-refused : (k : ℕ) → s .fwd v (negsuc 0) ≡ refused k → refused k ≡ lastChild ws n s v
-      unfolding lastChild
-      last-refused k e = rw (o, e)
-
-    pub next-at : (c : ℕ) → s .fwd v (negsuc 0) ≡ at c → handleAt ws n (c + 1) ≡ nextSibling ws n s v
-    unfolding nextSibling
-    next-at c e = rw e
-
-    pub next-nothing : s .fwd v (negsuc 0) ≡ nothing → nothing ≡ nextSibling ws n s v
-    unfolding nextSibling
-    next-nothing e = rw e
-
-    pub next-refused : (k : ℕ) → s .fwd v (negsuc 0) ≡ refused k → refused k ≡ nextSibling ws n s v
-    unfolding nextSibling
-    next-refused k e = rw e
-
-    pub previous-first : v ≤ 0 → nothing ≡ previousSibling ws n s v
-    unfolding previousSibling
-    previous-first h = rw (le-ltb 0 v h)
-
-    module _ (l : 0 < v) where
-      pub previous-none : closes ws n (v - 1) ≡ false → nothing ≡ previousSibling ws n s v
-      unfolding previousSibling
-      previous-none e = rw (lt-ltb 0 v l, e)
-
-      pub previous-at : closes ws n (v - 1) ≡ true → s .bwd (v - 1) (negsuc 0) ≡ previousSibling ws n s v
-      unfolding previousSibling
-      previous-at e = rw (lt-ltb 0 v l, e)
 
   module _ (s : Searches) (a d : ℕ) where
     pub ancestor-at : (c : ℕ) → s .fwd a (negsuc 0) ≡ at c → told (leb a d && ltb d c) ≡ isAncestor ws n s a d

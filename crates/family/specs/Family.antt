@@ -1,18 +1,19 @@
--- The calls on nodes in document 01's words, over any two searches; and what is_ancestor answers, which takes two handles.
+-- The calls on nodes in document 01's words, over any two searches, but for the last child and the siblings; and what is_ancestor
+-- answers, which takes two handles.
 -- Assumes nothing.
 use mathlib.Core.Bool.{cond, _&&_}
 use mathlib.Core.List.{List}
-use Prim.Native.Nat.{ℕ, _+_, _-_}
+use Prim.Native.Nat.{ℕ, _+_}
 use lib.Dec.{ltb, leb}
 use lib.IntN.{ℤ}
 use lib.ListN.{length}
 use Rattle.row.specs.declared.gate.Gate.{Gate}
 use Rattle.row.specs.Answer.{Answer, at, nothing}
 use Rattle.row.specs.Gates.{handleGate, andThen, through}
-use Rattle.row.specs.Tree.{opens, closes}
+use Rattle.row.specs.Tree.{closes}
 use Rattle.layout.specs.Layout.{nodesGate}
 use Rattle.search.specs.Searches.{outward}
-use Rattle.search.specs.Composed.{Searches, walked, defined, onward, told, handleAt, closeOf, openOf}
+use Rattle.search.specs.Composed.{Searches, walked, defined, onward, told, handleAt, closeOf}
 
 -- ---- without a search
 
@@ -34,18 +35,6 @@ module _ (ws : List ℕ) (n : ℕ) (s : Searches) where
   -- parent is enclose: bwd(i, -1) at an open bit, bwd(i, -2) at a close bit
   unfoldable pub parent : ℕ → Answer
   parent i = s .bwd i (outward ws n i)
-
-  -- last_child(v): if bit v+1 opens and v closes at c, open(c-1)
-  unfoldable pub lastChild : ℕ → Answer
-  lastChild v = cond (opens ws n (v + 1)) (onward (closeOf s v) (λ c. openOf s (c - 1))) nothing
-
-  -- next_sibling(v): close(v)+1 if that is an open bit of the row
-  unfoldable pub nextSibling : ℕ → Answer
-  nextSibling v = onward (closeOf s v) (λ c. handleAt ws n (c + 1))
-
-  -- previous_sibling(v): open(v-1) if v > 0 and bit v-1 closes
-  unfoldable pub previousSibling : ℕ → Answer
-  previousSibling v = cond (ltb 0 v && closes ws n (v - 1)) (openOf s (v - 1)) nothing
 
   -- is_ancestor(a, d): nothing if a has no close c; else whether a <= d and d < c
   unfoldable pub isAncestor : ℕ → ℕ → Answer

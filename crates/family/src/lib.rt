@@ -1,9 +1,8 @@
-// The calls on nodes. A node is its handle, the position at which it opens: refusal 5 where that is not an open bit of the row.
-// Those that search nothing take no node numbers: refusals 2 and 3, and 5 where a handle is taken. The others search: refusals 1 to 5
-// in their order, and 8.
+// The calls on nodes, but for the last child and the siblings, which stand above in `sibling`. A node is its handle, the position at
+// which it opens: refusal 5 where that is not an open bit of the row. Those that search nothing take no node numbers: refusals 2 and 3,
+// and 5 where a handle is taken. The others make one search: refusals 1 to 5 in their order, and 8.
 //
-// What a search answers is passed on as it stands, nothing and refusals too. Over any node numbers it answers a position of the row,
-// forward one past its start: so neither one more nor one less wraps, and no test of that is made.
+// What a search answers is passed on as it stands, nothing and refusals too.
 ghost use mathlib.Core.Path.{_≡_};
 ghost use mathlib.Core.Bool.{_&&_};
 ghost use Prim.Native.Nat.{_+_, _*_, _≤_, _<_};
@@ -15,7 +14,7 @@ ghost use Rattle.row.specs.Tree.{opens};
 ghost use Rattle.layout.specs.Layout.{nodesGate, Fine};
 ghost use Rattle.search.specs.Searches.{WhereBuilt};
 ghost use Rattle.search.specs.Composed.{walked, told, handleAt};
-ghost use Rattle.family.specs.Family.{root, firstChild, isLeaf, parent, lastChild, nextSibling, previousSibling, isAncestor};
+ghost use Rattle.family.specs.Family.{root, firstChild, isLeaf, parent, isAncestor};
 ghost use Rattle.search.specs.Handles.{handleAnswer, nodeAnswer, nodeDefined};
 ghost use Rattle.family.specs.Family.{bothGate, ancestorAnswer, ancestorDefined};
 use row::Found;
@@ -32,8 +31,8 @@ pub fn root(words: &[u64], n: usize) -> Found
     }
 }
 
-// Whether i is an open bit of the row.
-fn is_open(words: &[u64], n: usize, i: usize) -> bool
+// Whether i is an open bit of the row. `sibling` asks it before it looks for a last child.
+pub fn is_open(words: &[u64], n: usize, i: usize) -> bool
     requires { ⌜ n ≤ 64 * length (now words) ⌝ }
     ensures { λ r. ⌜ r ≡ opens (now (words .entry)) n i ⌝ }
 {
@@ -44,8 +43,8 @@ fn is_open(words: &[u64], n: usize, i: usize) -> bool
     }
 }
 
-// c + 1, if that is an open bit of the row.
-fn handle_after(words: &[u64], n: usize, c: usize) -> Found
+// c + 1, if that is an open bit of the row: the first child where c is a handle; in `sibling`, where c is a close, the next sibling.
+pub fn handle_after(words: &[u64], n: usize, c: usize) -> Found
     requires { ⌜ n ≤ 64 * length (now words) ⌝ }
     requires { ⌜ c < n ⌝ }
     ensures { λ a. ⌜ paperFound a ≡ handleAt (now (words .entry)) n (c + 1) ⌝ }
@@ -104,82 +103,6 @@ pub fn parent(words: &[u64], n: usize, nodes: &[i64], block: usize, v: usize) ->
         Gate::Shut(k) => Found::Refused(k),
         Gate::Open => walking::walk_bwd(words, n, nodes, block, v, -1),
     }
-}
-
-// If bit v + 1 opens and v closes at c: open(c - 1).
-pub fn last_child(words: &[u64], n: usize, nodes: &[i64], block: usize, v: usize) -> Found
-    ensures { λ a. ⌜ paperFound a ≡ nodeAnswer lastChild (now (words .entry)) n (now (nodes .entry)) block v ⌝ }
-    ensures { λ a. ⌜ WhereBuilt (now (words .entry)) n (now (nodes .entry)) block (paperFound a) (nodeDefined lastChild (now (words .entry)) n v) ⌝ }
-{
-    match search::admit_node(words, n, nodes, block, v) {
-        Gate::Shut(k) => Found::Refused(k),
-        Gate::Open => last_of(words, n, nodes, block, v),
-    }
-}
-
-// The same, once the tests are passed.
-fn last_of(words: &[u64], n: usize, nodes: &[i64], block: usize, v: usize) -> Found
-    requires { ⌜ Fine (length (now words)) n (length (now nodes)) block ⌝ }
-    requires { ⌜ v < n ⌝ }
-    ensures { λ a. ⌜ paperFound a ≡ lastChild (now (words .entry)) n (walked (now (words .entry)) n block (now (nodes .entry))) v ⌝ }
-{
-    if !is_open(words, n, v + 1) {
-        return Found::Nothing;
-    }
-    match walking::walk_fwd(words, n, nodes, block, v, -1) {
-        Found::At(c) => walking::walk_bwd(words, n, nodes, block, c - 1, -1),
-        Found::Nothing => Found::Nothing,
-        Found::Refused(k) => Found::Refused(k),
-    }
-}
-
-// close(v) + 1, if that is an open bit of the row.
-pub fn next_sibling(words: &[u64], n: usize, nodes: &[i64], block: usize, v: usize) -> Found
-    ensures { λ a. ⌜ paperFound a ≡ nodeAnswer nextSibling (now (words .entry)) n (now (nodes .entry)) block v ⌝ }
-    ensures { λ a. ⌜ WhereBuilt (now (words .entry)) n (now (nodes .entry)) block (paperFound a) (nodeDefined nextSibling (now (words .entry)) n v) ⌝ }
-{
-    match search::admit_node(words, n, nodes, block, v) {
-        Gate::Shut(k) => Found::Refused(k),
-        Gate::Open => next_of(words, n, nodes, block, v),
-    }
-}
-
-// The same, once the tests are passed.
-fn next_of(words: &[u64], n: usize, nodes: &[i64], block: usize, v: usize) -> Found
-    requires { ⌜ Fine (length (now words)) n (length (now nodes)) block ⌝ }
-    ensures { λ a. ⌜ paperFound a ≡ nextSibling (now (words .entry)) n (walked (now (words .entry)) n block (now (nodes .entry))) v ⌝ }
-{
-    match walking::walk_fwd(words, n, nodes, block, v, -1) {
-        Found::At(c) => handle_after(words, n, c),
-        Found::Nothing => Found::Nothing,
-        Found::Refused(k) => Found::Refused(k),
-    }
-}
-
-// If v > 0 and bit v - 1 closes: open(v - 1).
-pub fn previous_sibling(words: &[u64], n: usize, nodes: &[i64], block: usize, v: usize) -> Found
-    ensures { λ a. ⌜ paperFound a ≡ nodeAnswer previousSibling (now (words .entry)) n (now (nodes .entry)) block v ⌝ }
-    ensures { λ a. ⌜ WhereBuilt (now (words .entry)) n (now (nodes .entry)) block (paperFound a) (nodeDefined previousSibling (now (words .entry)) n v) ⌝ }
-{
-    match search::admit_node(words, n, nodes, block, v) {
-        Gate::Shut(k) => Found::Refused(k),
-        Gate::Open => previous_of(words, n, nodes, block, v),
-    }
-}
-
-// The same, once the tests are passed.
-fn previous_of(words: &[u64], n: usize, nodes: &[i64], block: usize, v: usize) -> Found
-    requires { ⌜ Fine (length (now words)) n (length (now nodes)) block ⌝ }
-    requires { ⌜ v < n ⌝ }
-    ensures { λ a. ⌜ paperFound a ≡ previousSibling (now (words .entry)) n (walked (now (words .entry)) n block (now (nodes .entry))) v ⌝ }
-{
-    if v == 0 {
-        return Found::Nothing;
-    }
-    if row::opens_at(words, v - 1) {
-        return Found::Nothing;
-    }
-    walking::walk_bwd(words, n, nodes, block, v - 1, -1)
 }
 
 // Refusals 1 to 5, in their order, for the handles a and d.

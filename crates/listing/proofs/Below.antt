@@ -23,7 +23,8 @@ use Rattle.row.specs.Tree.{opens, closes}
 use Rattle.row.proofs.Bools.{and-left}
 use Rattle.walk.proofs.Inside.{walk-after, walk-before}
 use Rattle.search.specs.Composed.{Searches, walked, onward, handleAt, closeOf, openOf}
-use Rattle.family.specs.Family.{firstChild, lastChild, nextSibling, previousSibling}
+use Rattle.family.specs.Family.{firstChild}
+use Rattle.sibling.specs.Siblings.{lastChild, nextSibling, previousSibling}
 use Rattle.search.specs.Handles.{nodeAnswer}
 use Rattle.search.proofs.Nodes.{passed-fine, passed-handle, handle-inside}
 use Rattle.wire.specs.Answer.{Small}

@@ -25,7 +25,8 @@ use Rattle.row.proofs.Digits.{digit-lt}
 use Rattle.row.proofs.Excess.{Near, sign-close, steps}
 use Rattle.row.proofs.Meaning.{IsBwd, fwd-is, bwd-is}
 use Rattle.search.specs.Composed.{defined, onward, handleAt}
-use Rattle.family.specs.Family.{firstChild, lastChild, nextSibling, previousSibling}
+use Rattle.family.specs.Family.{firstChild}
+use Rattle.sibling.specs.Siblings.{lastChild, nextSibling, previousSibling}
 use Rattle.listing.specs.Listing.{startCall, nextCall}
 
 -- an open bit of the row, or nothing

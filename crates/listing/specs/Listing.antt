@@ -9,7 +9,8 @@ use denote.Ref.{RefT, now}
 use Rattle.row.specs.Answer.{Answer, at, nothing, refused, paperFound}
 use Rattle.row.specs.Gates.{through}
 use Rattle.search.specs.Composed.{Searches}
-use Rattle.family.specs.Family.{firstChild, lastChild, nextSibling, previousSibling}
+use Rattle.family.specs.Family.{firstChild}
+use Rattle.sibling.specs.Siblings.{lastChild, nextSibling, previousSibling}
 use Rattle.search.specs.Handles.{nodeAnswer}
 use Rattle.listing.specs.declared.seek.Start.{Start}
 

@@ -3,7 +3,8 @@
 ghost use mathlib.Core.Path.{_≡_};
 ghost use lib.ListN.{length};
 ghost use Rattle.row.specs.Gates.{rowGate, through};
-ghost use Rattle.family.specs.Family.{root, firstChild, isLeaf, parent, lastChild, nextSibling, previousSibling};
+ghost use Rattle.family.specs.Family.{root, firstChild, isLeaf, parent};
+ghost use Rattle.sibling.specs.Siblings.{lastChild, nextSibling, previousSibling};
 ghost use Rattle.search.specs.Handles.{handleAnswer, nodeAnswer};
 ghost use Rattle.family.specs.Family.{ancestorAnswer};
 ghost use Rattle.wire.specs.Answer.{wireOf};

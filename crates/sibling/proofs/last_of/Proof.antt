@@ -1,4 +1,4 @@
--- `bp::node::last_of` meets its contract: v has no child; it closes at c, at none, or the walk refuses. Assumes nothing.
+-- `sibling::last_of` meets its contract: v has no child; it closes at c, at none, or the walk refuses. Assumes nothing.
 use mathlib.Core.Path.{_≡_, sym, _∙_}
 use mathlib.Core.Bool.{true}
 use Prim.Native.Nat.{_+_, _<_}
@@ -11,9 +11,10 @@ use Rattle.row.specs.Tree.{opens}
 use Rattle.row.specs.Way.{forward}
 use Rattle.walk.specs.Walk.{walk}
 use Rattle.walk.proofs.Inside.{walk-after}
-use Rattle.family.proofs.Moves.{said, last-bare, last-at, last-nothing, last-refused}
-use Rattle.family.proofs.last_of.Statement.{statement}
-use Rattle.family.proofs.last_of.Tie as tie
+use Rattle.family.proofs.Moves.{said}
+use Rattle.sibling.proofs.Moves.{last-bare, last-at, last-nothing, last-refused}
+use Rattle.sibling.proofs.last_of.Statement.{statement}
+use Rattle.sibling.proofs.last_of.Tie as tie
 
 add-is-open : tie.Need-add-is-open
 add-is-open c = search needs

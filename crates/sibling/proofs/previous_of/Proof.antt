@@ -1,10 +1,11 @@
--- `bp::node::previous_of` meets its contract: no bit before v, one that opens, one that closes. Assumes nothing.
+-- `sibling::previous_of` meets its contract: no bit before v, one that opens, one that closes. Assumes nothing.
 use mathlib.Core.Path.{sym, _∙_}
 use native.Mathlib.Omega.{arith}
 use borrow.Author.Needs.{needs}
-use Rattle.family.proofs.Moves.{closes-not, closes-in, previous-first, previous-none, previous-at}
-use Rattle.family.proofs.previous_of.Statement.{statement}
-use Rattle.family.proofs.previous_of.Tie as tie
+use Rattle.family.proofs.Moves.{closes-not, closes-in}
+use Rattle.sibling.proofs.Moves.{previous-first, previous-none, previous-at}
+use Rattle.sibling.proofs.previous_of.Statement.{statement}
+use Rattle.sibling.proofs.previous_of.Tie as tie
 
 returns : tie.Need-returns
 returns c = previous-first _ _ _ _ (omega arith)

@@ -3,10 +3,10 @@ use mathlib.Core.Path.{_≡_, sym, _∙_}
 use borrow.Author.Needs.{needs}
 use Rattle.row.specs.declared.gate.Gate.{Gate}
 use Rattle.row.specs.declared.gate.Gate.the-variants.{Open}
-use Rattle.family.specs.Family.{lastChild}
+use Rattle.sibling.specs.Siblings.{lastChild}
 use Rattle.search.proofs.Nodes.{passed-fine, passed-handle, handle-inside, nodeGate, node-shut, node-open}
-use Rattle.family.proofs.last_child.Statement.{statement}
-use Rattle.family.proofs.last_child.Tie as tie
+use Rattle.sibling.proofs.last_child.Statement.{statement}
+use Rattle.sibling.proofs.last_child.Tie as tie
 
 -- what the tests say
 abbrev gate : tie.After-admit-node → Gate

@@ -1,4 +1,4 @@
--- `bp::node::next_of` meets its contract: v closes at c, at none, or the walk refuses. Assumes nothing.
+-- `sibling::next_of` meets its contract: v closes at c, at none, or the walk refuses. Assumes nothing.
 use mathlib.Core.Path.{_≡_, _∙_}
 use Prim.Native.Nat.{_<_}
 use native.Mathlib.Omega.{arith}
@@ -8,9 +8,10 @@ use Rattle.row.specs.Answer.{at}
 use Rattle.row.specs.Way.{forward}
 use Rattle.walk.specs.Walk.{walk}
 use Rattle.walk.proofs.Inside.{walk-after}
-use Rattle.family.proofs.Moves.{said, next-at, next-nothing, next-refused}
-use Rattle.family.proofs.next_of.Statement.{statement}
-use Rattle.family.proofs.next_of.Tie as tie
+use Rattle.family.proofs.Moves.{said}
+use Rattle.sibling.proofs.Moves.{next-at, next-nothing, next-refused}
+use Rattle.sibling.proofs.next_of.Statement.{statement}
+use Rattle.sibling.proofs.next_of.Tie as tie
 
 walk-fwd-requires : tie.Need-walk-fwd-requires
 walk-fwd-requires c κs = search needs
