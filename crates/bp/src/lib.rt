@@ -1,16 +1,16 @@
 // All calls of the tree, under one name: each tests whatever it is lent, refuses by a number, and else answers what the walk finds.
 //
 // The words and the nodes are lent and never written. Over nodes as built the walk's answer is document 01's definition.
+pub use ends::level_leftmost;
+pub use ends::level_rightmost;
 pub use family::first_child;
 pub use family::is_ancestor;
 pub use family::is_leaf;
 pub use family::parent;
 pub use family::root;
 pub use level::level_ancestor;
-pub use level::level_leftmost;
 pub use level::level_next;
 pub use level::level_prev;
-pub use level::level_rightmost;
 pub use search::admit_node;
 pub use search::bwd_search;
 pub use search::close;

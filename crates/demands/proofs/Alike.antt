@@ -37,8 +37,9 @@ use Rattle.family.specs.Family as family
 use Rattle.sibling.specs.Siblings as sibling
 use Rattle.family.specs.Family.{bothGate, ancestorAnswer}
 use Rattle.level.specs.Levels as level
-use Rattle.level.specs.Levels.{inRow, rootStart, levelAnswer, rightmostAnswer}
-use Rattle.level.proofs.Rightmost.{root-there}
+use Rattle.ends.specs.Ends as ends
+use Rattle.ends.specs.Ends.{inRow, rootStart, levelAnswer, rightmostAnswer}
+use Rattle.ends.proofs.Rightmost.{root-there}
 use Rattle.listing.specs.Listing.{startCall, nextCall, sought, after}
 use Rattle.listing.specs.Whole.{answers, countOf, leftOf}
 use Rattle.demands.specs.Questions.{Question, fwdSearch, bwdSearch, closeOf, openOf, enclose, root, parent, firstChild, lastChild, nextSibling, previousSibling, isLeaf, isAncestor, levelAncestor, levelNext, levelPrev, levelLeftmost, levelRightmost, promised}
@@ -134,19 +135,19 @@ module _ (ws vs : List ℕ) (n : ℕ) (s t : List ℤ) (B : ℕ) (same : NodesAl
         over o (λ us S. family.isAncestor us n S a d) (λ S. refl),
       ))
 
-  leftmost-same : (k : ℕ) → levelAnswer level.levelLeftmost ws n s B k ≡ levelAnswer level.levelLeftmost vs n t B k
-  unfolding levelAnswer level.levelLeftmost
+  leftmost-same : (k : ℕ) → levelAnswer ends.levelLeftmost ws n s B k ≡ levelAnswer ends.levelLeftmost vs n t B k
+  unfolding levelAnswer ends.levelLeftmost
   leftmost-same k =
-      passed (level.levelLeftmost ws n (walked ws n B s) k) (level.levelLeftmost vs n (walked vs n B t) k)
-      (λ o. over o (λ us S. level.levelLeftmost us n S k) (λ S. refl))
+      passed (ends.levelLeftmost ws n (walked ws n B s) k) (ends.levelLeftmost vs n (walked vs n B t) k)
+      (λ o. over o (λ us S. ends.levelLeftmost us n S k) (λ S. refl))
 
   rightmost-same : (k : ℕ) → rightmostAnswer ws n s B k ≡ rightmostAnswer vs n t B k
-  unfolding rightmostAnswer level.levelRightmost
+  unfolding rightmostAnswer ends.levelRightmost
   rightmost-same k =
-      passed (level.levelRightmost ws n (walked ws n B s) (rootStart n s) k) (level.levelRightmost vs n (walked vs n B t) (rootStart n t) k)
+      passed (ends.levelRightmost ws n (walked ws n B s) (rootStart n s) k) (ends.levelRightmost vs n (walked vs n B t) (rootStart n t) k)
       (λ o. let l = gate-fine (length ws) n (length s) B o .eight in
-      over o (λ us S. level.levelRightmost us n S (rootStart n s) k) (λ S. refl)
-      ∙ ap (λ (a : Answer). level.levelRightmost vs n (walked vs n B t) a k) (root-same n s t B (omega arith) (same .nodes o)))
+      over o (λ us S. ends.levelRightmost us n S (rootStart n s) k) (λ S. refl)
+      ∙ ap (λ (a : Answer). ends.levelRightmost vs n (walked vs n B t) a k) (root-same n s t B (omega arith) (same .nodes o)))
 
   pub test-same : asBuiltAnswer ws n s B ≡ asBuiltAnswer vs n t B
   unfolding asBuiltAnswer

@@ -18,11 +18,12 @@ use Rattle.walk.specs.Walk.{walk}
 use Rattle.family.specs.Family as family
 use Rattle.sibling.specs.Siblings as sibling
 use Rattle.level.specs.Levels as level
+use Rattle.ends.specs.Ends as ends
 use Rattle.search.specs.Composed.{Searches, walked}
 use Rattle.search.specs.Searches.{searchAnswer, outward}
 use Rattle.search.specs.Handles.{handleAnswer, nodeAnswer}
 use Rattle.family.specs.Family.{bothGate, ancestorAnswer}
-use Rattle.level.specs.Levels.{levelAnswer, rightmostAnswer}
+use Rattle.ends.specs.Ends.{levelAnswer, rightmostAnswer}
 use Rattle.demands.specs.Questions.{Question, fwdSearch, bwdSearch, closeOf, openOf, enclose, root, parent, firstChild, lastChild, nextSibling, previousSibling, isLeaf, isAncestor, levelAncestor, levelNext, levelPrev, levelLeftmost, levelRightmost, promised}
 use Rattle.demands.specs.Listing.{Among}
 use Rattle.demands.specs.Handles.{Handle}
@@ -128,7 +129,7 @@ module _ (ws : List ℕ) (n : ℕ) (s : List ℤ) (B : ℕ) where
       node-may (level.levelAncestor k) v (λ h. may-level-ancestor (8 ∷ []) ws n walks fwd-may bwd-may k v (opens-low ws n v h))
   answers-may (levelNext v) = node-may level.levelNext v (λ h. may-next (8 ∷ []) ws n walks fwd-may bwd-may v)
   answers-may (levelPrev v) = node-may level.levelPrev v (λ h. may-prev (8 ∷ []) ws n walks fwd-may bwd-may v)
-  answers-may (levelLeftmost k) = free-may (level.levelLeftmost ws n walks k) (may-leftmost (8 ∷ []) ws n walks fwd-may bwd-may k)
+  answers-may (levelLeftmost k) = free-may (ends.levelLeftmost ws n walks k) (may-leftmost (8 ∷ []) ws n walks fwd-may bwd-may k)
   answers-may (levelRightmost k) =
-      free-may (level.levelRightmost ws n walks (level.rootStart n s) k)
-      (may-rightmost (8 ∷ []) ws n walks fwd-may bwd-may n (level.rootStart n s) (root-may n s) k)
+      free-may (ends.levelRightmost ws n walks (ends.rootStart n s) k)
+      (may-rightmost (8 ∷ []) ws n walks fwd-may bwd-may n (ends.rootStart n s) (root-may n s) k)

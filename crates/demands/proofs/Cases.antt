@@ -12,9 +12,9 @@ use Rattle.stretch.specs.Scan.{scan}
 use Rattle.layout.specs.Layout.{leaves, exponent, power, innerFor, layoutOf, blockGate, roomGate, nodesGate}
 use Rattle.mmt.specs.Nodes.{nodeAt, leafOf, innerOf, nodeFrom, nodeOf, listed, written}
 use Rattle.walk.specs.Walk.{near, fits, climb, descend, walk}
-use Rattle.level.specs.Levels.{levelAncestor, levelNext, levelPrev, levelRightmost, ones, lastStart, rootStart}
+use Rattle.level.specs.Levels.{levelAncestor, levelNext, levelPrev}
+use Rattle.ends.specs.Ends.{levelRightmost, ones, lastStart, rootStart, rightmostAnswer, rightmostDefined}
 use Rattle.search.specs.Handles.{nodeAnswer, nodeDefined}
-use Rattle.level.specs.Levels.{rightmostAnswer, rightmostDefined}
 use Rattle.search.specs.Searches.{searchAnswer, outward}
 use Rattle.demands.specs.Cases.{table, Claim}
 

@@ -21,13 +21,14 @@ use Rattle.walk.proofs.Right.{walk-forward, walk-backward}
 use Rattle.family.specs.Family as family
 use Rattle.sibling.specs.Siblings as sibling
 use Rattle.level.specs.Levels as level
+use Rattle.ends.specs.Ends as ends
 use Rattle.search.specs.Composed.{Searches, walked, defined}
 use Rattle.search.specs.Searches.{searchAnswer, outward}
 use Rattle.search.specs.Handles.{handleAnswer, nodeAnswer, nodeDefined}
 use Rattle.family.specs.Family.{bothGate, ancestorAnswer, ancestorDefined}
-use Rattle.level.specs.Levels.{levelAnswer, rightmostAnswer, rightmostDefined}
+use Rattle.ends.specs.Ends.{levelAnswer, rightmostAnswer, rightmostDefined}
 use Rattle.search.proofs.Defined.{searches-defined}
-use Rattle.level.proofs.Rightmost.{rightmost-right}
+use Rattle.ends.proofs.Rightmost.{rightmost-right}
 use Rattle.demands.specs.Questions.{Question, fwdSearch, bwdSearch, closeOf, openOf, enclose, root, parent, firstChild, lastChild, nextSibling, previousSibling, isLeaf, isAncestor, levelAncestor, levelNext, levelPrev, levelLeftmost, levelRightmost, promised, definition}
 use Rattle.demands.specs.Handles.{Handle}
 use Rattle.demands.specs.First.{kind, May}
@@ -137,7 +138,7 @@ module _ (ws : List ℕ) (n : ℕ) where
   defined-may (levelNext v) = node-may level.levelNext v (λ h. may-next bad ws n (defined ws n) ahead-may behind-may v)
   defined-may (levelPrev v) = node-may level.levelPrev v (λ h. may-prev bad ws n (defined ws n) ahead-may behind-may v)
   defined-may (levelLeftmost k) = may-leftmost bad ws n (defined ws n) ahead-may behind-may k
-  defined-may (levelRightmost k) = may-rightmost bad ws n (defined ws n) ahead-may behind-may _ (level.lastStart ws n) (last-may ws n bad) k
+  defined-may (levelRightmost k) = may-rightmost bad ws n (defined ws n) ahead-may behind-may _ (ends.lastStart ws n) (last-may ws n bad) k
 
   pub only-five : (q : Question) (k : ℕ) → definition ws n q ≡ refused k → k ≡ 5
   only-five q k e = List·Memᴰ·eq-of-singleton (rw e at (defined-may q))

@@ -22,8 +22,9 @@ use Rattle.row.specs.Excess.{E}
 use Rattle.row.specs.Search.{before, fwd, bwd}
 use Rattle.row.specs.Tree.{OneTree}
 use Rattle.search.specs.Composed.{defined, onward, openOf}
-use Rattle.level.specs.Levels.{ones, levelLeftmost, levelNext, levelPrev, levelRightmost, lastStart}
-use Rattle.level.proofs.Rightmost.{E-ones}
+use Rattle.level.specs.Levels.{levelNext, levelPrev}
+use Rattle.ends.specs.Ends.{ones, levelLeftmost, levelRightmost, lastStart}
+use Rattle.ends.proofs.Rightmost.{E-ones}
 use Rattle.demands.specs.Handles.{atDepth}
 use Rattle.demands.proofs.Nexts.{next, prev, next-yes, next-skip, prev-skip, prev-none, Near, nearest}
 use Rattle.demands.proofs.Turns.{Stands, turn, stands, at-depth, not-depth, first-deep}

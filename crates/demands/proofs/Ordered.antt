@@ -16,11 +16,12 @@ use Rattle.walk.specs.Walk.{walk}
 use Rattle.family.specs.Family as family
 use Rattle.sibling.specs.Siblings as sibling
 use Rattle.level.specs.Levels as level
+use Rattle.ends.specs.Ends as ends
 use Rattle.search.specs.Composed.{Searches, walked}
 use Rattle.search.specs.Searches.{searchAnswer, outward}
 use Rattle.search.specs.Handles.{handleAnswer, nodeAnswer}
 use Rattle.family.specs.Family.{bothGate, ancestorAnswer}
-use Rattle.level.specs.Levels.{levelAnswer, rightmostAnswer}
+use Rattle.ends.specs.Ends.{levelAnswer, rightmostAnswer}
 use Rattle.demands.specs.Questions.{Question, fwdSearch, bwdSearch, closeOf, openOf, enclose, root, parent, firstChild, lastChild, nextSibling, previousSibling, isLeaf, isAncestor, levelAncestor, levelNext, levelPrev, levelLeftmost, levelRightmost, promised}
 use Rattle.demands.specs.First.{overNodes, overRow, kind, InOrder}
 use Rattle.demands.proofs.Tested.{refuses-one, refuses-both, nodes-order, row-order, then-open}
@@ -65,5 +66,5 @@ module _ (ws : List ℕ) (n : ℕ) (s : List ℤ) (B : ℕ) where
   order-of (levelAncestor v k) = node-order (level.levelAncestor k) v
   order-of (levelNext v) = node-order level.levelNext v
   order-of (levelPrev v) = node-order level.levelPrev v
-  order-of (levelLeftmost k) = free-order (level.levelLeftmost ws n walks k)
-  order-of (levelRightmost k) = free-order (level.levelRightmost ws n walks (level.rootStart n s) k)
+  order-of (levelLeftmost k) = free-order (ends.levelLeftmost ws n walks k)
+  order-of (levelRightmost k) = free-order (ends.levelRightmost ws n walks (ends.rootStart n s) k)

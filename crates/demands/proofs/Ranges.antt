@@ -18,7 +18,8 @@ use Rattle.row.proofs.Bools.{and-right}
 use Rattle.search.specs.Composed.{Searches, onward, told, handleAt}
 use Rattle.family.specs.Family.{root, firstChild, isLeaf, parent, isAncestor}
 use Rattle.sibling.specs.Siblings.{lastChild, nextSibling, previousSibling}
-use Rattle.level.specs.Levels.{levelNext, levelPrev, levelLeftmost, levelRightmost, levelAncestor}
+use Rattle.level.specs.Levels.{levelNext, levelPrev, levelAncestor}
+use Rattle.ends.specs.Ends.{levelLeftmost, levelRightmost}
 use Rattle.search.specs.Searches.{outward}
 use Rattle.demands.specs.Listing.{Among}
 use Rattle.demands.specs.First.{May}

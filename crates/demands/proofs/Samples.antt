@@ -11,8 +11,7 @@ use Rattle.row.specs.Excess.{sign, excess, E}
 use Rattle.row.specs.Search.{least, greatest, fwd, bwd}
 use Rattle.row.specs.Tree.{opens, OneTree, allBelow, oneTree}
 use Rattle.row.proofs.Tree.{oneTree-true}
-use Rattle.level.specs.Levels.{ones, levelRightmost, lastStart}
-use Rattle.level.specs.Levels.{rightmostDefined}
+use Rattle.ends.specs.Ends.{ones, levelRightmost, lastStart, rightmostDefined}
 use Rattle.demands.specs.Questions.{levelPrev, levelRightmost as rightmost, definition}
 use Rattle.demands.specs.Listing.{those, Names}
 use Rattle.demands.specs.Handles.{atDepth, childOf, level, children}

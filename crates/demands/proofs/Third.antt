@@ -26,7 +26,7 @@ use Rattle.sibling.specs.Siblings as sibling
 use Rattle.level.specs.Levels as level
 use Rattle.search.specs.Composed.{Searches, defined}
 use Rattle.search.specs.Handles.{nodeDefined}
-use Rattle.level.specs.Levels.{rightmostDefined}
+use Rattle.ends.specs.Ends.{rightmostDefined}
 use Rattle.demands.specs.Questions.{Question, parent, firstChild, lastChild, nextSibling, previousSibling, levelNext, levelPrev, levelLeftmost, levelRightmost, promised, definition}
 use Rattle.demands.specs.Handles.{Handle, atDepth, childOf, children}
 use Rattle.demands.specs.Third.{Tours, Third}

@@ -23,7 +23,7 @@ use Rattle.layout.specs.Layout.{inner, count}
 use Rattle.mmt.specs.Nodes.{nodeAt}
 use Rattle.walk.specs.Walk.{fits, Climb, turn, out, misfit, climb, Descent, leaf, lost, descend, found, far, ends, startBlock, startScan, inLeaf, land, after, inStart, walk}
 use Rattle.walk.proofs.Right.{inside}
-use Rattle.level.specs.Levels.{ones, lastStart, inRow, rootStart}
+use Rattle.ends.specs.Ends.{ones, lastStart, inRow, rootStart}
 use Rattle.demands.specs.First.{May}
 
 -- ---- a scan

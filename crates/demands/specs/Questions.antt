@@ -12,10 +12,11 @@ use Rattle.search.specs.Searches.{fwdAnswer, bwdAnswer, outward}
 use Rattle.family.specs.Family as family
 use Rattle.sibling.specs.Siblings as sibling
 use Rattle.level.specs.Levels as level
+use Rattle.ends.specs.Ends as ends
 use Rattle.search.specs.Composed.{defined}
 use Rattle.search.specs.Handles.{handleAnswer, nodeAnswer, nodeDefined}
 use Rattle.family.specs.Family.{ancestorAnswer, ancestorDefined}
-use Rattle.level.specs.Levels.{levelAnswer, rightmostAnswer, rightmostDefined}
+use Rattle.ends.specs.Ends.{levelAnswer, rightmostAnswer, rightmostDefined}
 
 -- a call and what it is asked: a position and an excess r, a position, a handle, two handles, a handle and a level, a level
 pub data Question : Type 0 where
@@ -56,7 +57,7 @@ promised ws n s B (isAncestor a d) = ancestorAnswer ws n s B a d
 promised ws n s B (levelAncestor v k) = nodeAnswer (level.levelAncestor k) ws n s B v
 promised ws n s B (levelNext v) = nodeAnswer level.levelNext ws n s B v
 promised ws n s B (levelPrev v) = nodeAnswer level.levelPrev ws n s B v
-promised ws n s B (levelLeftmost k) = levelAnswer level.levelLeftmost ws n s B k
+promised ws n s B (levelLeftmost k) = levelAnswer ends.levelLeftmost ws n s B k
 promised ws n s B (levelRightmost k) = rightmostAnswer ws n s B k
 
 -- what document 01 defines on a row of n bits; a call on a handle refuses what is none
@@ -77,5 +78,5 @@ definition ws n (isAncestor a d) = ancestorDefined ws n a d
 definition ws n (levelAncestor v k) = nodeDefined (level.levelAncestor k) ws n v
 definition ws n (levelNext v) = nodeDefined level.levelNext ws n v
 definition ws n (levelPrev v) = nodeDefined level.levelPrev ws n v
-definition ws n (levelLeftmost k) = level.levelLeftmost ws n (defined ws n) k
+definition ws n (levelLeftmost k) = ends.levelLeftmost ws n (defined ws n) k
 definition ws n (levelRightmost k) = rightmostDefined ws n k

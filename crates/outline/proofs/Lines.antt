@@ -11,7 +11,8 @@ use lib.IntN.{ℤ}
 use lib.ListN.{length}
 use Rattle.row.specs.Answer.{Answer, at, nothing, refused}
 use Rattle.search.specs.Handles.{nodeAnswer}
-use Rattle.level.specs.Levels.{levelNext, levelLeftmost, levelAnswer}
+use Rattle.level.specs.Levels.{levelNext}
+use Rattle.ends.specs.Ends.{levelLeftmost, levelAnswer}
 use Rattle.page.specs.Page.{Adds, decimalOf}
 use Rattle.page.proofs.Pages.{adds-nothing, adds-then}
 use Rattle.outline.specs.Shown.{refusalLine, nodeLine}

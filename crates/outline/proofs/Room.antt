@@ -21,8 +21,8 @@ use Rattle.row.specs.Bits.{bitAt}
 use Rattle.row.specs.Excess.{E}
 use Rattle.row.specs.Tree.{OneTree, opens}
 use Rattle.row.proofs.Digits.{digit-lt}
-use Rattle.level.specs.Levels.{ones}
-use Rattle.level.proofs.Rightmost.{E-ones}
+use Rattle.ends.specs.Ends.{ones}
+use Rattle.ends.proofs.Rightmost.{E-ones}
 use Rattle.demands.specs.First.{May}
 use Rattle.demands.specs.Questions.{closeOf, parent, definition}
 use Rattle.demands.specs.Listing.{those}

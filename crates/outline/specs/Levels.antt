@@ -5,7 +5,8 @@ use Prim.Native.Nat.{ℕ, zero, suc, _/_}
 use lib.IntN.{ℤ}
 use Rattle.row.specs.Answer.{Answer, at, nothing, refused}
 use Rattle.search.specs.Handles.{nodeAnswer}
-use Rattle.level.specs.Levels.{levelNext, levelLeftmost, levelAnswer}
+use Rattle.level.specs.Levels.{levelNext}
+use Rattle.ends.specs.Ends.{levelLeftmost, levelAnswer}
 use Rattle.page.specs.Page.{decimalOf}
 use Rattle.outline.specs.Shown.{refusalLine, nodeLine}
 

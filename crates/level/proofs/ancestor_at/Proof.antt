@@ -1,4 +1,4 @@
--- `bp::level::ancestor_at` meets its contract: v itself, a level too far, or the search. Assumes nothing.
+-- `level::ancestor_at` meets its contract: v itself, a level too far, or the search. Assumes nothing.
 use mathlib.Core.Path.{_∙_}
 use Prim.Native.Nat.{_≤_}
 use borrow.Author.Needs.{needs}

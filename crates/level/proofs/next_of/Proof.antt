@@ -1,4 +1,4 @@
--- `bp::level::next_of` meets its contract: what the first search answers is passed on. Assumes nothing.
+-- `level::next_of` meets its contract: what the first search answers is passed on. Assumes nothing.
 use mathlib.Core.Path.{sym, _∙_}
 use borrow.Author.Needs.{needs}
 use Rattle.level.proofs.Levels.{on-at, on-nothing, on-refused, next-is}

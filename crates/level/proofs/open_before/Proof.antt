@@ -1,4 +1,4 @@
--- `bp::level::open_before` meets its contract: what the first search answers is passed on. Assumes nothing.
+-- `level::open_before` meets its contract: what the first search answers is passed on. Assumes nothing.
 use mathlib.Core.Path.{_≡_}
 use borrow.Author.Needs.{needs}
 use mir.Syntax.{w64}

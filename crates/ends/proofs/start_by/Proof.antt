@@ -1,8 +1,8 @@
--- `bp::level::start_by` meets its contract: below 0, in the row, or past it. Assumes nothing.
+-- `ends::start_by` meets its contract: below 0, in the row, or past it. Assumes nothing.
 use borrow.Author.Needs.{needs}
-use Rattle.level.proofs.Rightmost.{sum-fits, start-fits, row-below, row-cast, row-in, row-past}
-use Rattle.level.proofs.start_by.Statement.{statement}
-use Rattle.level.proofs.start_by.Tie as tie
+use Rattle.ends.proofs.Rightmost.{sum-fits, start-fits, row-below, row-cast, row-in, row-past}
+use Rattle.ends.proofs.start_by.Statement.{statement}
+use Rattle.ends.proofs.start_by.Tie as tie
 
 cast-i : tie.Need-cast-i
 cast-i c = search needs

@@ -1,4 +1,4 @@
--- `bp::level::root_start` meets its contract: no bits, a root out of range, or the start by its total. Assumes nothing.
+-- `ends::root_start` meets its contract: no bits, a root out of range, or the start by its total. Assumes nothing.
 use mathlib.Core.Path.{_∙_}
 use native.Mathlib.Omega.{arith}
 use borrow.Author.Needs.{needs}
@@ -6,9 +6,9 @@ use Rattle.stretch.specs.declared.numbers.Numbers.{Numbers}
 use Rattle.mmt.specs.Nodes.{nodeAt}
 use Rattle.examine.specs.declared.ask.Examined.the-variants.{Fit}
 use Rattle.examine.proofs.Asked.{Looked, looked, fits-size, total-back}
-use Rattle.level.proofs.Rightmost.{start-none, start-misfit, start-root}
-use Rattle.level.proofs.root_start.Statement.{statement}
-use Rattle.level.proofs.root_start.Tie as tie
+use Rattle.ends.proofs.Rightmost.{start-none, start-misfit, start-root}
+use Rattle.ends.proofs.root_start.Statement.{statement}
+use Rattle.ends.proofs.root_start.Tie as tie
 
 -- the root that is in range
 abbrev root : tie.After-x → Numbers

@@ -39,7 +39,7 @@ use Rattle.mmt.proofs.Covered.{startOf, top, node-is}
 use Rattle.walk.specs.Walk.{fits}
 use Rattle.walk.proofs.Told.{numbers-fit}
 use Rattle.search.specs.Composed.{defined, onward, openOf}
-use Rattle.level.specs.Levels.{levelRightmost, ones, lastStart, inRow, rootStart}
+use Rattle.ends.specs.Ends.{levelRightmost, ones, lastStart, inRow, rootStart}
 
 -- ---- the start over any nodes
 module _ (n : ℕ) (s : List ℤ) where

@@ -5,9 +5,9 @@ use borrow.Author.Needs.{needs}
 use Rattle.row.specs.declared.gate.Gate.the-variants.{Open}
 use Rattle.layout.specs.Layout.{nodesGate}
 use Rattle.layout.proofs.Admitted.{gate-fine}
-use Rattle.level.proofs.Levels.{rightmost-shut, rightmost-open}
-use Rattle.level.proofs.level_rightmost.Statement.{statement}
-use Rattle.level.proofs.level_rightmost.Tie as tie
+use Rattle.ends.proofs.Ends.{rightmost-shut, rightmost-open}
+use Rattle.ends.proofs.level_rightmost.Statement.{statement}
+use Rattle.ends.proofs.level_rightmost.Tie as tie
 
 -- in the arm that walks, refusals 1 to 4 are passed
 passed : (c : tie.After-enum-told) → (let a = c .before .before .before .before .args in

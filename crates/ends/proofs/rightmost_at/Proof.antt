@@ -1,12 +1,13 @@
--- `bp::level::rightmost_at` meets its contract: a level too far, or what the start passes on. Assumes nothing.
+-- `ends::rightmost_at` meets its contract: a level too far, or what the start passes on. Assumes nothing.
 use mathlib.Core.Path.{_∙_}
 use Prim.Native.Nat.{_≤_}
 use native.Mathlib.Omega.{arith}
 use borrow.Author.Needs.{needs}
-use Rattle.level.proofs.Levels.{on-at, on-nothing, on-refused, told-far, told-near, level-fits, level-read, rightmost-far, rightmost-walk}
-use Rattle.level.proofs.Rightmost.{root-there}
-use Rattle.level.proofs.rightmost_at.Statement.{statement}
-use Rattle.level.proofs.rightmost_at.Tie as tie
+use Rattle.level.proofs.Levels.{on-at, on-nothing, on-refused, told-far, told-near, level-fits, level-read}
+use Rattle.ends.proofs.Ends.{rightmost-far, rightmost-walk}
+use Rattle.ends.proofs.Rightmost.{root-there}
+use Rattle.ends.proofs.rightmost_at.Statement.{statement}
+use Rattle.ends.proofs.rightmost_at.Tie as tie
 
 -- where it goes on, k is not too far
 near : (c : tie.Else1) → (let a = c .before .before .before .args in a .k ≤ a .n)

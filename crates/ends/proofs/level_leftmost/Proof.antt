@@ -5,10 +5,10 @@ use borrow.Author.Needs.{needs}
 use Rattle.row.specs.declared.gate.Gate.the-variants.{Open}
 use Rattle.layout.specs.Layout.{nodesGate}
 use Rattle.layout.proofs.Admitted.{gate-fine}
-use Rattle.level.specs.Levels.{levelLeftmost}
-use Rattle.level.proofs.Levels.{level-shut, level-open}
-use Rattle.level.proofs.level_leftmost.Statement.{statement}
-use Rattle.level.proofs.level_leftmost.Tie as tie
+use Rattle.ends.specs.Ends.{levelLeftmost}
+use Rattle.ends.proofs.Ends.{level-shut, level-open}
+use Rattle.ends.proofs.level_leftmost.Statement.{statement}
+use Rattle.ends.proofs.level_leftmost.Tie as tie
 
 -- in the arm that walks, refusals 1 to 4 are passed
 passed : (c : tie.After-enum-told) → (let a = c .before .before .before .before .args in

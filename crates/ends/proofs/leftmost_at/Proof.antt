@@ -1,11 +1,12 @@
--- `bp::level::leftmost_at` meets its contract: no bits, the first bit, a level too far, or the search. Assumes nothing.
+-- `ends::leftmost_at` meets its contract: no bits, the first bit, a level too far, or the search. Assumes nothing.
 use mathlib.Core.Path.{_∙_}
 use Prim.Native.Nat.{_≤_}
 use native.Mathlib.Omega.{arith}
 use borrow.Author.Needs.{needs}
-use Rattle.level.proofs.Levels.{told-far, told-near, level-fits, level-read, leftmost-none, leftmost-root, leftmost-far, leftmost-walk}
-use Rattle.level.proofs.leftmost_at.Statement.{statement}
-use Rattle.level.proofs.leftmost_at.Tie as tie
+use Rattle.level.proofs.Levels.{told-far, told-near, level-fits, level-read}
+use Rattle.ends.proofs.Ends.{leftmost-none, leftmost-root, leftmost-far, leftmost-walk}
+use Rattle.ends.proofs.leftmost_at.Statement.{statement}
+use Rattle.ends.proofs.leftmost_at.Tie as tie
 
 -- where it searches, k is not too far
 near : (c : tie.Else3) → (let a = c .before .before .before .before .before .args in a .k ≤ a .n)
