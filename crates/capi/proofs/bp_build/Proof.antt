@@ -1,4 +1,4 @@
--- `bp_build` meets its contract: the words are decoded, the numbers have room in an array. Assumes nothing.
+-- `capi::bp_build` meets its contract: the words are decoded, the numbers have room in an array. Assumes nothing.
 use mathlib.Core.Path.{sym, ap, _∙_}
 use Prim.Native.Nat.{_*_, _≤_}
 use native.Mathlib.Omega.{arith}

@@ -1,4 +1,4 @@
--- `bp::level_rightmost` meets its contract: a shut gate is the refusal, an open one the walk's answer. Assumes nothing.
+-- `ends::level_rightmost` meets its contract: a shut gate is the refusal, an open one the walk's answer. Assumes nothing.
 use mathlib.Core.Path.{_≡_, sym, _∙_}
 use lib.ListN.{length}
 use borrow.Author.Needs.{needs}

@@ -1,4 +1,4 @@
--- `bp::node::admit_both` meets its contract: refusals 1 to 5 for a, then 5 for d. Assumes nothing.
+-- `family::admit_both` meets its contract: refusals 1 to 5 for a, then 5 for d. Assumes nothing.
 use mathlib.Core.Path.{_≡_, sym, _∙_}
 use lib.ListN.{length}
 use borrow.Author.Needs.{needs}

@@ -1,4 +1,4 @@
--- `bp::first_child` meets its contract: a shut gate is the refusal, an open one the next bit, if it opens. Assumes nothing.
+-- `family::first_child` meets its contract: a shut gate is the refusal, an open one the next bit, if it opens. Assumes nothing.
 use mathlib.Core.Path.{_≡_, sym, _∙_}
 use borrow.Author.Needs.{needs}
 use Rattle.row.specs.declared.gate.Gate.{Gate}

@@ -1,4 +1,4 @@
--- `bp::node::handle_after` meets its contract: the next bit opens, or it does not. Assumes nothing.
+-- `family::handle_after` meets its contract: the next bit opens, or it does not. Assumes nothing.
 use mathlib.Core.Path.{sym, _∙_}
 use borrow.Author.Needs.{needs}
 use Rattle.family.proofs.Moves.{handle-yes, handle-no}

@@ -1,4 +1,4 @@
--- `bp::is_ancestor` meets its contract: a shut gate is the refusal, an open one what `spans` answers. Assumes nothing.
+-- `family::is_ancestor` meets its contract: a shut gate is the refusal, an open one what `spans` answers. Assumes nothing.
 use mathlib.Core.Path.{_≡_, sym, _∙_}
 use lib.ListN.{length}
 use borrow.Author.Needs.{needs}

@@ -1,4 +1,4 @@
--- `bp::is_leaf` meets its contract: a shut gate is the refusal, an open one whether the next bit closes. Assumes nothing.
+-- `family::is_leaf` meets its contract: a shut gate is the refusal, an open one whether the next bit closes. Assumes nothing.
 use mathlib.Core.Path.{_≡_, sym, _∙_}
 use borrow.Author.Needs.{needs}
 use Rattle.row.specs.declared.gate.Gate.{Gate}

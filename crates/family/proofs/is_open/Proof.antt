@@ -1,4 +1,4 @@
--- `bp::node::is_open` meets its contract: past the row, and in it. Assumes nothing.
+-- `family::is_open` meets its contract: past the row, and in it. Assumes nothing.
 use mathlib.Core.Path.{_∙_}
 use native.Mathlib.Omega.{arith}
 use borrow.Author.Needs.{needs}

@@ -1,4 +1,4 @@
--- `bp::node::leaf_at` meets its contract: no next bit, one that opens, one that closes. Assumes nothing.
+-- `family::leaf_at` meets its contract: no next bit, one that opens, one that closes. Assumes nothing.
 use mathlib.Core.Path.{sym, _∙_}
 use native.Mathlib.Omega.{arith}
 use borrow.Author.Needs.{needs}

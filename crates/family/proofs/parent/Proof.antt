@@ -1,4 +1,4 @@
--- `bp::parent` meets its contract: a shut gate is the refusal, an open one the walk one level back, since a handle opens. Assumes nothing.
+-- `family::parent` meets its contract: a shut gate is the refusal, an open one the walk one level back, since a handle opens. Assumes nothing.
 use mathlib.Core.Path.{_≡_, sym, _∙_}
 use borrow.Author.Needs.{needs}
 use Rattle.row.specs.declared.gate.Gate.{Gate}

@@ -1,4 +1,4 @@
--- `bp::root` meets its contract: a shut gate is the refusal, an open one 0, or nothing on an empty row. Assumes nothing.
+-- `family::root` meets its contract: a shut gate is the refusal, an open one 0, or nothing on an empty row. Assumes nothing.
 use mathlib.Core.Path.{_≡_, sym, _∙_}
 use lib.ListN.{length}
 use borrow.Author.Needs.{needs}

@@ -1,4 +1,4 @@
--- `bp::node::spans` meets its contract: a closes at c, at none, or the walk refuses. Assumes nothing.
+-- `family::spans` meets its contract: a closes at c, at none, or the walk refuses. Assumes nothing.
 use mathlib.Core.Path.{_∙_}
 use borrow.Author.Needs.{needs}
 use Rattle.family.proofs.Moves.{said, ancestor-at, ancestor-nothing, ancestor-refused}

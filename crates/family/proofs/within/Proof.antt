@@ -1,4 +1,4 @@
--- `bp::node::within` meets its contract: both tests hold, the second does not, the first does not. Assumes nothing.
+-- `family::within` meets its contract: both tests hold, the second does not, the first does not. Assumes nothing.
 use mathlib.Core.Logic.{⊎-elim}
 use Rattle.family.proofs.Moves.{within-yes, within-past, within-before}
 use Rattle.family.proofs.within.Statement.{statement}

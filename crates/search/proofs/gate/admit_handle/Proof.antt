@@ -1,4 +1,4 @@
--- `bp::gate::admit_handle` meets its contract: refusals 2 and 3, then 5. Assumes nothing.
+-- `search::admit_handle` meets its contract: refusals 2 and 3, then 5. Assumes nothing.
 use mathlib.Core.Path.{_≡_, sym, _∙_}
 use lib.ListN.{length}
 use borrow.Author.Needs.{needs}

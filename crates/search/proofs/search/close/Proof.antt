@@ -1,4 +1,4 @@
--- `bp::close` meets its contract: it is the one search. Assumes nothing.
+-- `search::close` meets its contract: it is the one search. Assumes nothing.
 use borrow.Author.Needs.{needs}
 use Rattle.search.proofs.search.close.Statement.{statement}
 use Rattle.search.proofs.search.close.Tie as tie

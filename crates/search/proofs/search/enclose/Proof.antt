@@ -1,4 +1,4 @@
--- `bp::enclose` meets its contract: it is the one search, by as much as `out_of` says. Assumes nothing.
+-- `search::enclose` meets its contract: it is the one search, by as much as `out_of` says. Assumes nothing.
 use borrow.Author.Needs.{needs}
 use mir.Syntax.{w64}
 use mir.ValLaws.{toZ-ofZ}

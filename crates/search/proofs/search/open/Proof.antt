@@ -1,4 +1,4 @@
--- `bp::open` meets its contract: it is the one search. Assumes nothing.
+-- `search::open` meets its contract: it is the one search. Assumes nothing.
 use borrow.Author.Needs.{needs}
 use Rattle.search.proofs.search.open.Statement.{statement}
 use Rattle.search.proofs.search.open.Tie as tie

@@ -1,4 +1,4 @@
--- `bp::out_of` meets its contract: past the row, past the words, at an open bit, at a closing one. Assumes nothing.
+-- `search::out_of` meets its contract: past the row, past the words, at an open bit, at a closing one. Assumes nothing.
 use mathlib.Core.Path.{sym, _∙_}
 use native.Mathlib.Omega.{arith}
 use Rattle.search.proofs.Answers.{outward-past, outward-short, outward-open, outward-close}
