@@ -1,0 +1,16 @@
+-- `capi::bp_is_ancestor` meets its contract: it is the one question, asked of the two handles in their order. Assumes nothing.
+use mathlib.Core.Path.{_∙_}
+use mir.Syntax.{w64}
+use mir.ValLaws.{toZ-ofZ}
+use borrow.Author.Needs.{needs}
+use Rattle.capi.proofs.bp_is_ancestor.Statement.{statement}
+use Rattle.capi.proofs.bp_is_ancestor.Tie as tie
+
+over-bytes-requires : tie.Need-over-bytes-requires
+over-bytes-requires c κs = search needs
+
+returns : tie.Need-returns
+returns c = toZ-ofZ w64 _ (record { sfits = c .over-bytes .ok }) ∙ c .over-bytes .ensures
+
+pub bp-is-ancestor-spec : {M : Type 1} → statement M
+bp-is-ancestor-spec = tie.close (tie.spec over-bytes-requires returns)
