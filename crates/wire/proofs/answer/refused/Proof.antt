@@ -6,7 +6,6 @@ use Rattle.wire.proofs.Numbers.{number-small, below, negsuc-fits}
 use borrow.Author.Needs.{needs}
 use Rattle.wire.proofs.answer.refused.Statement.{statement}
 use Rattle.wire.proofs.answer.refused.Tie as tie
-use Rattle.row.proofs.number.Reads as number-reads
 
 number-requires : tie.Need-number-requires
 number-requires c κs = search needs
