@@ -31,8 +31,9 @@ array-share-prefix-words c = search needs
 
 slice-aggregate-build : tie.Need-slice-aggregate-build
 slice-aggregate-build c =
-    let s = c .before .before .before .before .before .before .before .args .row .now in
-    lent (λ j. wordAt s (8 * j)) _ _ (c .before .before .before .take-words .ensures .1)
+    let t = c .before .before .before in
+    let s = t .before .before .before .before .args .row .now in
+    lent (λ j. wordAt s (8 * j)) _ _ (t .take-words .ensures .1)
 
 bits-requires : tie.Need-bits-requires
 bits-requires c κs = search needs
@@ -47,9 +48,11 @@ slice-aggregate-build-2 c =
 
 build-requires : tie.Need-build-requires
 build-requires c κs =
-    let m = c .before .before .before .before .fitting in
+    let f = c .before .before .before .before in
+    let t = f .before .before in
+    let m = f .fitting in
     let h : m .result ≤ 3069 = omega (arith, m .ensures) in
-    let s = c .before .before .before .before .before .before .before .before .before .before .args .nodes .now in
+    let s = t .before .before .before .before .args .nodes .now in
     let e : 8 * m .result ≤ length s = omega (arith, m .ensures) in
     rw (length-take-le _ _ h) e
 
@@ -58,15 +61,20 @@ same-length c = search needs
 
 returns : tie.Need-returns
 returns c =
-    let a = c .before .before .before .before .before .before .before .before .before .before .before .before .before .before .args in
-    let w = c .before .before .before .before .before .before .before .before .before .before .take-words .ensures in
-    let m = c .before .before .before .before .before .before .before .before .fitting in
+    -- where the build, the bit count, the room and the words are answered, from the last to the first
+    let b = c .before .before .before in
+    let n = b .before .before .before in
+    let f = n .before .before in
+    let t = f .before .before in
+    let a = t .before .before .before .before .args in
+    let w = t .take-words .ensures in
+    let m = f .fitting in
     let h : m .result ≤ 3069 = omega (arith, m .ensures) in
-    let e = c .before .before .before .build .ensures in
+    let e = b .build .ensures in
     let p = w .1 ∙ ap (wordsIn (a .row .now)) (w .0) in
-    let q = c .before .before .before .before .before .before .bits .ensures in
+    let q = n .bits .ensures in
     let r = lent-few _ (m .result) _ (λ j. numberAt (a .nodes .now) (8 * j)) h (m .ensures) in (
-      toZ-ofZ w64 _ (record { sfits = c .before .before .before .build .ok }) ∙ e .0
+      toZ-ofZ w64 _ (record { sfits = b .build .ok }) ∙ e .0
           ∙ same (λ ws n t. wireOf (through (nodesGate (length ws) n t (a .block)) (at 0))) p q r,
       e .1 ∙ same (λ ws n t. leftBytes ws n t (a .block) (a .nodes .now)) p q r,
     )

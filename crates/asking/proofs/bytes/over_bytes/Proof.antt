@@ -28,8 +28,9 @@ array-share-prefix-words c = search needs
 
 slice-aggregate-ask : tie.Need-slice-aggregate-ask
 slice-aggregate-ask c =
-    let s = c .before .before .before .before .before .before .before .before .before .args .row .now in
-    lent (λ j. wordAt s (8 * j)) _ _ (c .before .before .before .before .before .take-words .ensures .1)
+    let t = c .before .before .before .before .before in
+    let s = t .before .before .before .before .args .row .now in
+    lent (λ j. wordAt s (8 * j)) _ _ (t .take-words .ensures .1)
 
 bits-requires : tie.Need-bits-requires
 bits-requires c κs = search needs
@@ -39,20 +40,26 @@ array-share-prefix-numbers c = search needs
 
 slice-aggregate-ask-2 : tie.Need-slice-aggregate-ask-2
 slice-aggregate-ask-2 c =
-    let s = c .before .before .before .before .before .before .before .before .before .before .before .args .nodes .now in
-    lent (λ j. numberAt s (8 * j)) _ _ (c .before .before .before .before .take-numbers .ensures .1)
+    let t = c .before .before .before .before in
+    let w = t .before .before .before in
+    let s = w .before .before .before .before .args .nodes .now in
+    lent (λ j. numberAt s (8 * j)) _ _ (t .take-numbers .ensures .1)
 
 ask-requires : tie.Need-ask-requires
 ask-requires c κs = search needs
 
 returns : tie.Need-returns
 returns c =
-    let a = c .before .before .before .before .before .before .before .before .before .before .before .before .args in
-    let w = c .before .before .before .before .before .before .before .before .take-words .ensures in
-    let m = c .before .before .before .before .before .take-numbers .ensures in
+    -- where the bit count, the numbers and the words are answered, from the last to the first
+    let b = c .before .before in
+    let t = b .before .before .before in
+    let u = t .before .before .before in
+    let a = u .before .before .before .before .args in
+    let w = u .take-words .ensures in
+    let m = t .take-numbers .ensures in
     toZ-ofZ w64 _ (record { sfits = c .ask .ok }) ∙ c .ask .ensures
     ∙ same (λ ws n s. wireOf (asked ws n s (a .block) (a .q)))
-    (w .1 ∙ ap (wordsIn (a .row .now)) (w .0)) (c .before .before .bits .ensures) (m .1 ∙ ap (numbersIn (a .nodes .now)) (m .0))
+    (w .1 ∙ ap (wordsIn (a .row .now)) (w .0)) (b .bits .ensures) (m .1 ∙ ap (numbersIn (a .nodes .now)) (m .0))
 
 pub over-bytes-spec : {M : Type 1} → statement M
 over-bytes-spec =
