@@ -21,9 +21,9 @@ same-length c = search needs
 
 returns : tie.Need-returns
 returns c =
-    let a = c .before .before .before .before .before .before .before .before .before .args in
-    let o = c .before .before .before .before .before .before in
     let p = c .before .before in
+    let o = p .before .before .before .before in
+    let a = o .before .before .before .args in
     let e : length (o .put-refused .last .0) ≡ length (a .page .now) = omega arith in
     adds-then (a .page .now) (o .put-refused .last .0) (p .put .last .0) (refusedText (numberOf (a .k))) (10 ∷ []) _ _ _ e (o .put-refused .ensures) (p .put .ensures)
 

@@ -29,9 +29,9 @@ same-length c = search needs
 returns : tie.Need-returns
 unfolding refusedText
 returns c =
-    let a = c .before .before .before .before .before .before .before .before .before .before .before .args in
-    let o = c .before .before .before .before .before .before .before in
     let p = c .before .before in
+    let o = p .before .before .before .before .before in
+    let a = o .before .before .before .before .args in
     let e : length (o .put-text .last .0) ≡ length (a .page .now) = omega arith in
     let d = rw (p .before .number .ensures) at (p .put-number .ensures) in
     adds-then (a .page .now) (o .put-text .last .0) (p .put-number .last .0) (114 ∷ 101 ∷ 102 ∷ 117 ∷ 115 ∷ 101 ∷ 100 ∷ 32 ∷ []) (decimalOf (numberOf (a .k))) _ _ _ e (o .put-text .ensures) d
