@@ -14,7 +14,7 @@ use Rattle.row.specs.Bits.{digit}
 use Rattle.row.proofs.Gates.{row-fits}
 use Rattle.row.proofs.Surplus.{Same}
 use Rattle.layout.specs.Layout.{width, count}
-use Rattle.mmt.specs.Nodes.{nodeAt}
+use Rattle.node.specs.Nodes.{nodeAt}
 use Rattle.layout.proofs.Admitted.{gate-fine}
 use Rattle.demands.specs.Questions.{Question, promised}
 use Rattle.demands.proofs.Unread.{Alike}

@@ -3,15 +3,15 @@
 // The words and the nodes are lent and never written. Over nodes as built the walk's answer is document 01's definition.
 pub use ends::level_leftmost;
 pub use ends::level_rightmost;
-pub use family::first_child;
 pub use family::is_ancestor;
-pub use family::is_leaf;
 pub use family::parent;
-pub use family::root;
+pub use handle::admit_node;
+pub use handle::first_child;
+pub use handle::is_leaf;
+pub use handle::root;
 pub use level::level_ancestor;
 pub use level::level_next;
 pub use level::level_prev;
-pub use search::admit_node;
 pub use search::bwd_search;
 pub use search::close;
 pub use search::enclose;

@@ -13,9 +13,9 @@ use Rattle.row.specs.declared.gate.Gate.the-variants.{Open, Shut}
 use Rattle.row.specs.Answer.{Answer, at, nothing, refused}
 use Rattle.row.specs.Gates.{through, kept}
 use Rattle.layout.specs.Layout.{width, count, nodesGate}
-use Rattle.mmt.specs.Nodes.{written}
+use Rattle.node.specs.Nodes.{written}
 use Rattle.mmt.specs.Build.{builtNodes}
-use Rattle.mmt.proofs.Written.{written-length}
+use Rattle.node.proofs.Written.{written-length}
 use Rattle.wire.specs.Bytes.{numbersOver}
 use Rattle.capi.specs.Build.{leftBytes}
 

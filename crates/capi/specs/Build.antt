@@ -7,7 +7,7 @@ use lib.ListN.{length}
 use Rattle.row.specs.Answer.{at}
 use Rattle.row.specs.Gates.{through, kept}
 use Rattle.layout.specs.Layout.{nodesGate}
-use Rattle.mmt.specs.Nodes.{written}
+use Rattle.node.specs.Nodes.{written}
 use Rattle.wire.specs.Answer.{wireOf}
 use Rattle.wire.specs.Limit.{wireBits}
 use Rattle.wire.specs.Bytes.{numbersOver}

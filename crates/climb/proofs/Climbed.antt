@@ -13,7 +13,7 @@ use lib.Dec.{leb, eqb}
 use lib.IntN.{ℤ}
 use Rattle.row.specs.Way.{Way}
 use Rattle.stretch.specs.Scan.{passed}
-use Rattle.mmt.specs.Nodes.{nodeAt}
+use Rattle.node.specs.Nodes.{nodeAt}
 use Rattle.layout.proofs.Places.{Place, place-up}
 use Rattle.walk.specs.Walk.{fits, holdsOn, Climb, last, sibling, climb}
 use Rattle.walk.proofs.Ways.{side-place, chosen, alike}

@@ -26,16 +26,18 @@ use Rattle.row.proofs.Surplus.{Same, oneTree-same}
 use Rattle.stretch.specs.declared.numbers.Numbers.{Numbers}
 use Rattle.tree.specs.OneTree.{oneTreeAnswer}
 use Rattle.layout.specs.Layout.{count, nodesGate}
-use Rattle.mmt.specs.Nodes.{nodeAt}
-use Rattle.mmt.specs.Check.{builtTest, asBuiltAnswer}
 use Rattle.layout.proofs.Admitted.{gate-fine}
+use Rattle.handle.specs.Bare.{handleAnswer}
+use Rattle.node.specs.Nodes.{nodeAt}
+use Rattle.mmt.specs.Check.{builtTest, asBuiltAnswer}
 use Rattle.walk.specs.Walk.{Walk, fits, walk}
-use Rattle.search.specs.Composed.{Searches, walked}
-use Rattle.search.specs.Searches.{searchAnswer, outward}
-use Rattle.search.specs.Handles.{handleAnswer, nodeAnswer}
+use Rattle.calls.specs.Composed.{Searches, walked}
+use Rattle.calls.specs.Searches.{searchAnswer, outward}
+use Rattle.calls.specs.Handles.{nodeAnswer}
+use Rattle.handle.specs.Bare as handle
 use Rattle.family.specs.Family as family
-use Rattle.sibling.specs.Siblings as sibling
 use Rattle.family.specs.Family.{bothGate, ancestorAnswer}
+use Rattle.sibling.specs.Siblings as sibling
 use Rattle.level.specs.Levels as level
 use Rattle.ends.specs.Ends as ends
 use Rattle.ends.specs.Ends.{inRow, rootStart, levelAnswer, rightmostAnswer}
@@ -198,13 +200,13 @@ module _ (ws vs : List ℕ) (n : ℕ) (s t : List ℤ) (B : ℕ) (row : RowAlike
   answers-same (openOf i) h = search-same ws vs n s t B (h refl) backward i (negsuc 0) (negsuc 0) (λ b. refl)
   answers-same (enclose i) h =
       search-same ws vs n s t B (h refl) backward i (outward ws n i) (outward vs n i) (λ b. outward-same ws vs n b i)
-  answers-same root h = ap (λ (g : Gate). through g (family.root n)) (row .gate)
+  answers-same root h = ap (λ (g : Gate). through g (handle.root n)) (row .gate)
   answers-same (parent v) h = node-same ws vs n s t B (h refl) family.parent (parent-same ws vs n) v
-  answers-same (firstChild v) h = handle-same ws vs n row family.firstChild (first-child-same ws vs n) v
+  answers-same (firstChild v) h = handle-same ws vs n row handle.firstChild (first-child-same ws vs n) v
   answers-same (lastChild v) h = node-same ws vs n s t B (h refl) sibling.lastChild (last-child-same ws vs n) v
   answers-same (nextSibling v) h = node-same ws vs n s t B (h refl) sibling.nextSibling (next-sibling-same ws vs n) v
   answers-same (previousSibling v) h = node-same ws vs n s t B (h refl) sibling.previousSibling (previous-sibling-same ws vs n) v
-  answers-same (isLeaf v) h = handle-same ws vs n row family.isLeaf (is-leaf-same ws vs n) v
+  answers-same (isLeaf v) h = handle-same ws vs n row handle.isLeaf (is-leaf-same ws vs n) v
   answers-same (isAncestor a d) h = both-same ws vs n s t B (h refl) a d
   answers-same (levelAncestor v k) h = node-same ws vs n s t B (h refl) (level.levelAncestor k) (λ b S u. refl) v
   answers-same (levelNext v) h = node-same ws vs n s t B (h refl) level.levelNext (λ b S u. refl) v

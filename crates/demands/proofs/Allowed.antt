@@ -14,15 +14,17 @@ use Rattle.row.specs.Answer.{Answer}
 use Rattle.row.specs.Gates.{rowGate, handleGate, through, andThen}
 use Rattle.row.specs.Way.{Way, forward, backward}
 use Rattle.layout.specs.Layout.{nodesGate}
+use Rattle.handle.specs.Bare.{handleAnswer}
 use Rattle.walk.specs.Walk.{walk}
+use Rattle.calls.specs.Composed.{Searches, walked}
+use Rattle.calls.specs.Searches.{searchAnswer, outward}
+use Rattle.calls.specs.Handles.{nodeAnswer}
+use Rattle.handle.specs.Bare as handle
 use Rattle.family.specs.Family as family
+use Rattle.family.specs.Family.{bothGate, ancestorAnswer}
 use Rattle.sibling.specs.Siblings as sibling
 use Rattle.level.specs.Levels as level
 use Rattle.ends.specs.Ends as ends
-use Rattle.search.specs.Composed.{Searches, walked}
-use Rattle.search.specs.Searches.{searchAnswer, outward}
-use Rattle.search.specs.Handles.{handleAnswer, nodeAnswer}
-use Rattle.family.specs.Family.{bothGate, ancestorAnswer}
 use Rattle.ends.specs.Ends.{levelAnswer, rightmostAnswer}
 use Rattle.demands.specs.Questions.{Question, fwdSearch, bwdSearch, closeOf, openOf, enclose, root, parent, firstChild, lastChild, nextSibling, previousSibling, isLeaf, isAncestor, levelAncestor, levelNext, levelPrev, levelLeftmost, levelRightmost, promised}
 use Rattle.demands.specs.Listing.{Among}
@@ -117,13 +119,13 @@ module _ (ws : List ℕ) (n : ℕ) (s : List ℤ) (B : ℕ) where
   answers-may (closeOf i) = search-may forward i (negsuc 0)
   answers-may (openOf i) = search-may backward i (negsuc 0)
   answers-may (enclose i) = search-may backward i (outward ws n i)
-  answers-may root = may-through (2 ∷ 3 ∷ []) n row (family.root n) (shut-row (2 ∷ 3 ∷ []) (length ws) n one two) (λ g. may-root (2 ∷ 3 ∷ []) ws n)
+  answers-may root = may-through (2 ∷ 3 ∷ []) n row (handle.root n) (shut-row (2 ∷ 3 ∷ []) (length ws) n one two) (λ g. may-root (2 ∷ 3 ∷ []) ws n)
   answers-may (parent v) = node-may family.parent v (λ h. may-parent (8 ∷ []) ws n walks fwd-may bwd-may v)
-  answers-may (firstChild v) = bare-may n family.firstChild v (may-first-child bare ws n v)
+  answers-may (firstChild v) = bare-may n handle.firstChild v (may-first-child bare ws n v)
   answers-may (lastChild v) = node-may sibling.lastChild v (λ h. may-last-child (8 ∷ []) ws n walks fwd-may bwd-may v)
   answers-may (nextSibling v) = node-may sibling.nextSibling v (λ h. may-next-sibling (8 ∷ []) ws n walks fwd-may bwd-may v)
   answers-may (previousSibling v) = node-may sibling.previousSibling v (λ h. may-previous-sibling (8 ∷ []) ws n walks fwd-may bwd-may v)
-  answers-may (isLeaf v) = bare-may 2 family.isLeaf v (may-leaf bare ws n v)
+  answers-may (isLeaf v) = bare-may 2 handle.isLeaf v (may-leaf bare ws n v)
   answers-may (isAncestor a d) = ancestor-may a d
   answers-may (levelAncestor v k) =
       node-may (level.levelAncestor k) v (λ h. may-level-ancestor (8 ∷ []) ws n walks fwd-may bwd-may k v (opens-low ws n v h))

@@ -10,12 +10,12 @@ use Rattle.row.specs.Tree.{opens, closes}
 use Rattle.stretch.specs.Numbers.{run, lowest, highest, none, numbersOf, joinOf, holdsFor, holdsBack}
 use Rattle.stretch.specs.Scan.{scan}
 use Rattle.layout.specs.Layout.{leaves, exponent, power, innerFor, layoutOf, blockGate, roomGate, nodesGate}
-use Rattle.mmt.specs.Nodes.{nodeAt, leafOf, innerOf, nodeFrom, nodeOf, listed, written}
+use Rattle.node.specs.Nodes.{nodeAt, leafOf, innerOf, nodeFrom, nodeOf, listed, written}
 use Rattle.walk.specs.Walk.{near, fits, climb, descend, walk}
+use Rattle.calls.specs.Handles.{nodeAnswer, nodeDefined}
+use Rattle.calls.specs.Searches.{searchAnswer, outward}
 use Rattle.level.specs.Levels.{levelAncestor, levelNext, levelPrev}
 use Rattle.ends.specs.Ends.{levelRightmost, ones, lastStart, rootStart, rightmostAnswer, rightmostDefined}
-use Rattle.search.specs.Handles.{nodeAnswer, nodeDefined}
-use Rattle.search.specs.Searches.{searchAnswer, outward}
 use Rattle.demands.specs.Cases.{table, Claim}
 
 pub cases : Claim

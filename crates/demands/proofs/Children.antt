@@ -21,8 +21,8 @@ use Rattle.row.specs.Excess.{E}
 use Rattle.row.specs.Search.{fwd, bwd}
 use Rattle.row.specs.Tree.{opens, OneTree}
 use Rattle.row.proofs.Bools.{and-left, and-right}
-use Rattle.search.specs.Composed.{defined, onward, handleAt}
-use Rattle.family.specs.Family.{firstChild}
+use Rattle.handle.specs.Bare.{handleAt, firstChild}
+use Rattle.calls.specs.Composed.{defined, onward}
 use Rattle.sibling.specs.Siblings.{lastChild, nextSibling, previousSibling}
 use Rattle.demands.specs.Handles.{Handle, atDepth, isBefore, childOf}
 use Rattle.demands.proofs.Nexts.{next, prev, next-is, next-none, prev-skip, prev-none, prev-same}

@@ -15,19 +15,21 @@ use Rattle.row.specs.Search.{fwd, bwd}
 use Rattle.row.specs.Way.{forward, backward}
 use Rattle.row.proofs.Gates.{row-open}
 use Rattle.layout.specs.Layout.{nodesGate, Fine}
-use Rattle.mmt.specs.Nodes.{AsBuilt}
 use Rattle.layout.proofs.Admitted.{fine-gate}
+use Rattle.handle.specs.Bare.{handleAnswer}
+use Rattle.node.specs.Nodes.{AsBuilt}
 use Rattle.walk.proofs.Right.{walk-forward, walk-backward}
+use Rattle.calls.specs.Composed.{Searches, walked, defined}
+use Rattle.calls.specs.Searches.{searchAnswer, outward}
+use Rattle.calls.specs.Handles.{nodeAnswer, nodeDefined}
+use Rattle.calls.proofs.Defined.{searches-defined}
+use Rattle.handle.specs.Bare as handle
 use Rattle.family.specs.Family as family
+use Rattle.family.specs.Family.{bothGate, ancestorAnswer, ancestorDefined}
 use Rattle.sibling.specs.Siblings as sibling
 use Rattle.level.specs.Levels as level
 use Rattle.ends.specs.Ends as ends
-use Rattle.search.specs.Composed.{Searches, walked, defined}
-use Rattle.search.specs.Searches.{searchAnswer, outward}
-use Rattle.search.specs.Handles.{handleAnswer, nodeAnswer, nodeDefined}
-use Rattle.family.specs.Family.{bothGate, ancestorAnswer, ancestorDefined}
 use Rattle.ends.specs.Ends.{levelAnswer, rightmostAnswer, rightmostDefined}
-use Rattle.search.proofs.Defined.{searches-defined}
 use Rattle.ends.proofs.Rightmost.{rightmost-right}
 use Rattle.demands.specs.Questions.{Question, fwdSearch, bwdSearch, closeOf, openOf, enclose, root, parent, firstChild, lastChild, nextSibling, previousSibling, isLeaf, isAncestor, levelAncestor, levelNext, levelPrev, levelLeftmost, levelRightmost, promised, definition}
 use Rattle.demands.specs.Handles.{Handle}
@@ -79,11 +81,11 @@ module _ (ws : List ℕ) (n : ℕ) (s : List ℤ) (B : ℕ) (fine : Fine (length
   equal (enclose i) = bwd-equal i (outward ws n i)
   equal root = rw row
   equal (parent v) = node-equal family.parent v
-  equal (firstChild v) = handle-equal family.firstChild v
+  equal (firstChild v) = handle-equal handle.firstChild v
   equal (lastChild v) = node-equal sibling.lastChild v
   equal (nextSibling v) = node-equal sibling.nextSibling v
   equal (previousSibling v) = node-equal sibling.previousSibling v
-  equal (isLeaf v) = handle-equal family.isLeaf v
+  equal (isLeaf v) = handle-equal handle.isLeaf v
   equal (isAncestor a d) = ancestor-equal a d
   equal (levelAncestor v k) = node-equal (level.levelAncestor k) v
   equal (levelNext v) = node-equal level.levelNext v
@@ -127,11 +129,11 @@ module _ (ws : List ℕ) (n : ℕ) where
   defined-may (enclose i) = behind-may i (outward ws n i)
   defined-may root = may-root bad ws n
   defined-may (parent v) = node-may family.parent v (λ h. may-parent bad ws n (defined ws n) ahead-may behind-may v)
-  defined-may (firstChild v) = held-may n v (family.firstChild ws n v) (λ h. may-first-child bad ws n v)
+  defined-may (firstChild v) = held-may n v (handle.firstChild ws n v) (λ h. may-first-child bad ws n v)
   defined-may (lastChild v) = node-may sibling.lastChild v (λ h. may-last-child bad ws n (defined ws n) ahead-may behind-may v)
   defined-may (nextSibling v) = node-may sibling.nextSibling v (λ h. may-next-sibling bad ws n (defined ws n) ahead-may behind-may v)
   defined-may (previousSibling v) = node-may sibling.previousSibling v (λ h. may-previous-sibling bad ws n (defined ws n) ahead-may behind-may v)
-  defined-may (isLeaf v) = held-may 2 v (family.isLeaf ws n v) (λ h. may-leaf bad ws n v)
+  defined-may (isLeaf v) = held-may 2 v (handle.isLeaf ws n v) (λ h. may-leaf bad ws n v)
   defined-may (isAncestor a d) = both-may a d
   defined-may (levelAncestor v k) =
       node-may (level.levelAncestor k) v (λ h. may-level-ancestor bad ws n (defined ws n) ahead-may behind-may k v (opens-low ws n v h))

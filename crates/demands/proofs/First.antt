@@ -21,7 +21,7 @@ use Rattle.row.specs.Tree.{oneTree}
 use Rattle.text.specs.Text.{allParentheses, wordsOf, textGate, textWords}
 use Rattle.tree.specs.OneTree.{oneTreeAnswer}
 use Rattle.layout.specs.Layout.{width, count, nodesGate}
-use Rattle.mmt.specs.Nodes.{written}
+use Rattle.node.specs.Nodes.{written}
 use Rattle.mmt.specs.Build.{builtNodes}
 use Rattle.mmt.specs.Check.{builtTest, asBuiltAnswer}
 use Rattle.demands.specs.First.{May, buildAnswer, readAnswer, First}

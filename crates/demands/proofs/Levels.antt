@@ -21,7 +21,7 @@ use Rattle.row.specs.Answer.{Answer, at}
 use Rattle.row.specs.Excess.{E}
 use Rattle.row.specs.Search.{before, fwd, bwd}
 use Rattle.row.specs.Tree.{OneTree}
-use Rattle.search.specs.Composed.{defined, onward, openOf}
+use Rattle.calls.specs.Composed.{defined, onward, openOf}
 use Rattle.level.specs.Levels.{levelNext, levelPrev}
 use Rattle.ends.specs.Ends.{ones, levelLeftmost, levelRightmost, lastStart}
 use Rattle.ends.proofs.Rightmost.{E-ones}

@@ -18,12 +18,13 @@ use Rattle.row.proofs.Surplus.{Same, opens-same, closes-same}
 use Rattle.stretch.specs.declared.numbers.Numbers.{Numbers}
 use Rattle.stretch.proofs.Full.{numbers-ext}
 use Rattle.layout.specs.Layout.{inner, count}
-use Rattle.mmt.specs.Nodes.{nodeAt, leafOf, innerOf, nodeFrom, nodeOf, listed, written}
+use Rattle.handle.specs.Bare.{firstChild, isLeaf}
+use Rattle.node.specs.Nodes.{nodeAt, leafOf, innerOf, nodeFrom, nodeOf, listed, written}
+use Rattle.node.proofs.Nodes.{from-ext}
 use Rattle.mmt.specs.Check.{sameNumbers, builtTest}
-use Rattle.mmt.proofs.Nodes.{from-ext}
-use Rattle.search.specs.Composed.{Searches}
-use Rattle.search.specs.Searches.{outward}
-use Rattle.family.specs.Family.{firstChild, isLeaf, parent}
+use Rattle.calls.specs.Composed.{Searches}
+use Rattle.calls.specs.Searches.{outward}
+use Rattle.family.specs.Family.{parent}
 use Rattle.sibling.specs.Siblings.{lastChild, nextSibling, previousSibling}
 use Rattle.demands.proofs.Unread.{Alike}
 

@@ -14,7 +14,8 @@ use Rattle.row.specs.Answer.{Answer, at}
 use Rattle.row.proofs.Gates.{row-open}
 use Rattle.layout.specs.Layout.{Fine}
 use Rattle.layout.proofs.Admitted.{fine-gate}
-use Rattle.search.specs.Handles.{handleAnswer, nodeAnswer}
+use Rattle.handle.specs.Bare.{handleAnswer}
+use Rattle.calls.specs.Handles.{nodeAnswer}
 use Rattle.listing.specs.Listing.{Listing, sought, making, begun, after, made}
 use Rattle.listing.specs.Steps.{answerAt, nth}
 use Rattle.listing.proofs.Sequence.{ended}

@@ -12,15 +12,17 @@ use Rattle.row.specs.Answer.{Answer, at}
 use Rattle.row.specs.Gates.{handleGate, through}
 use Rattle.row.specs.Way.{Way, forward, backward}
 use Rattle.layout.specs.Layout.{nodesGate}
+use Rattle.handle.specs.Bare.{handleAnswer}
 use Rattle.walk.specs.Walk.{walk}
+use Rattle.calls.specs.Composed.{Searches, walked}
+use Rattle.calls.specs.Searches.{searchAnswer, outward}
+use Rattle.calls.specs.Handles.{nodeAnswer}
+use Rattle.handle.specs.Bare as handle
 use Rattle.family.specs.Family as family
+use Rattle.family.specs.Family.{bothGate, ancestorAnswer}
 use Rattle.sibling.specs.Siblings as sibling
 use Rattle.level.specs.Levels as level
 use Rattle.ends.specs.Ends as ends
-use Rattle.search.specs.Composed.{Searches, walked}
-use Rattle.search.specs.Searches.{searchAnswer, outward}
-use Rattle.search.specs.Handles.{handleAnswer, nodeAnswer}
-use Rattle.family.specs.Family.{bothGate, ancestorAnswer}
 use Rattle.ends.specs.Ends.{levelAnswer, rightmostAnswer}
 use Rattle.demands.specs.Questions.{Question, fwdSearch, bwdSearch, closeOf, openOf, enclose, root, parent, firstChild, lastChild, nextSibling, previousSibling, isLeaf, isAncestor, levelAncestor, levelNext, levelPrev, levelLeftmost, levelRightmost, promised}
 use Rattle.demands.specs.First.{overNodes, overRow, kind, InOrder}
@@ -55,13 +57,13 @@ module _ (ws : List ℕ) (n : ℕ) (s : List ℤ) (B : ℕ) where
   order-of (closeOf i) = search-order forward i (negsuc 0)
   order-of (openOf i) = search-order backward i (negsuc 0)
   order-of (enclose i) = search-order backward i (outward ws n i)
-  order-of root = rw then-open at (row-order ws n s B n [] Open (family.root n) (λ v i f. absurd (List·Memᴰ·not-nil i)))
+  order-of root = rw then-open at (row-order ws n s B n [] Open (handle.root n) (λ v i f. absurd (List·Memᴰ·not-nil i)))
   order-of (parent v) = node-order family.parent v
-  order-of (firstChild v) = bare-order n family.firstChild v
+  order-of (firstChild v) = bare-order n handle.firstChild v
   order-of (lastChild v) = node-order sibling.lastChild v
   order-of (nextSibling v) = node-order sibling.nextSibling v
   order-of (previousSibling v) = node-order sibling.previousSibling v
-  order-of (isLeaf v) = bare-order 2 family.isLeaf v
+  order-of (isLeaf v) = bare-order 2 handle.isLeaf v
   order-of (isAncestor a d) = nodes-order ws n s B 2 (a ∷ d ∷ []) (bothGate ws n a d) (family.isAncestor ws n walks a d) (refuses-both ws n a d)
   order-of (levelAncestor v k) = node-order (level.levelAncestor k) v
   order-of (levelNext v) = node-order level.levelNext v

@@ -20,9 +20,9 @@ use Rattle.row.specs.Answer.{at}
 use Rattle.row.specs.Excess.{E}
 use Rattle.row.specs.Search.{before}
 use Rattle.row.specs.Tree.{OneTree}
-use Rattle.search.specs.Composed.{defined}
+use Rattle.calls.specs.Composed.{defined}
+use Rattle.calls.specs.Searches.{outward}
 use Rattle.family.specs.Family.{parent}
-use Rattle.search.specs.Searches.{outward}
 use Rattle.demands.specs.Handles.{Handle, childOf}
 use Rattle.demands.proofs.Nexts.{Near, nearest}
 use Rattle.demands.proofs.Turns.{turn, opens-low, opens-up, stayed}

@@ -15,12 +15,13 @@ use lib.IntN.{ℤ, pos, negsuc, negℤ}
 use Rattle.row.specs.Answer.{Answer, at, nothing, refused}
 use Rattle.row.specs.Tree.{opens, closes}
 use Rattle.row.proofs.Bools.{and-right}
-use Rattle.search.specs.Composed.{Searches, onward, told, handleAt}
-use Rattle.family.specs.Family.{root, firstChild, isLeaf, parent, isAncestor}
+use Rattle.handle.specs.Bare.{told, handleAt, root, firstChild, isLeaf}
+use Rattle.calls.specs.Composed.{Searches, onward}
+use Rattle.calls.specs.Searches.{outward}
+use Rattle.family.specs.Family.{parent, isAncestor}
 use Rattle.sibling.specs.Siblings.{lastChild, nextSibling, previousSibling}
 use Rattle.level.specs.Levels.{levelNext, levelPrev, levelAncestor}
 use Rattle.ends.specs.Ends.{levelLeftmost, levelRightmost}
-use Rattle.search.specs.Searches.{outward}
 use Rattle.demands.specs.Listing.{Among}
 use Rattle.demands.specs.First.{May}
 use Rattle.demands.proofs.Turns.{opens-low}

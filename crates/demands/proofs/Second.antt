@@ -23,11 +23,11 @@ use Rattle.row.proofs.Meaning.{IsFwd, IsBwd, fwd-is, bwd-is}
 use Rattle.row.proofs.Tree.{oneTree-true, oneTree-yes}
 use Rattle.tree.specs.OneTree.{oneTreeAnswer}
 use Rattle.layout.specs.Layout.{width, count, nodesGate, Fine}
-use Rattle.mmt.specs.Nodes.{AsBuilt, written}
+use Rattle.node.specs.Nodes.{AsBuilt, written}
 use Rattle.mmt.specs.Build.{builtNodes}
 use Rattle.mmt.specs.Check.{builtTest, asBuiltAnswer}
 use Rattle.layout.proofs.Admitted.{fine-gate}
-use Rattle.mmt.proofs.Written.{written-length, written-built}
+use Rattle.node.proofs.Written.{written-length, written-built}
 use Rattle.mmt.proofs.Tested.{built-true, built-yes}
 use Rattle.demands.specs.Questions.{fwdSearch, bwdSearch, promised}
 use Rattle.demands.specs.Second.{Builds, Tells, Nearest, Answers, Second}

@@ -20,7 +20,7 @@ use Rattle.row.specs.Tree.{opens, allBelow, oneTree}
 use Rattle.stretch.specs.Numbers.{run, lowest, highest, none, numbersOf, joinOf}
 use Rattle.tree.specs.OneTree.{oneTreeAnswer}
 use Rattle.layout.specs.Layout.{leaves, exponent, power, innerFor, layoutOf, blockGate, roomGate, nodesGate}
-use Rattle.mmt.specs.Nodes.{nodeAt, leafOf, innerOf, nodeFrom, AsBuilt}
+use Rattle.node.specs.Nodes.{nodeAt, leafOf, innerOf, nodeFrom, AsBuilt}
 use Rattle.mmt.specs.Check.{sameNumbers, builtTest, asBuiltAnswer}
 use Rattle.mmt.proofs.Tested.{built-yes}
 use Rattle.demands.specs.Questions.{Question, fwdSearch, nextSibling, definition}

@@ -20,9 +20,9 @@ use Rattle.row.specs.Answer.{Answer, at}
 use Rattle.row.specs.Gates.{wordsFor, rowGate, andThen, through}
 use Rattle.row.proofs.Surplus.{Same, words-beyond}
 use Rattle.layout.specs.Layout.{width, count, blockGate, roomGate, nodesGate}
-use Rattle.mmt.specs.Nodes.{nodeAt, written}
+use Rattle.node.specs.Nodes.{nodeAt, written}
 use Rattle.mmt.specs.Build.{builtNodes}
-use Rattle.mmt.proofs.Written.{written-length}
+use Rattle.node.proofs.Written.{written-length}
 use Rattle.listing.specs.Listing.{Listing, sought, making, begun, after}
 use Rattle.listing.specs.Steps.{answerAt}
 use Rattle.demands.specs.First.{buildAnswer}

@@ -19,13 +19,14 @@ use Rattle.row.specs.Excess.{E}
 use Rattle.row.specs.Gates.{handleGate, through}
 use Rattle.row.specs.Tree.{OneTree}
 use Rattle.layout.specs.Layout.{Fine}
-use Rattle.mmt.specs.Nodes.{AsBuilt}
+use Rattle.node.specs.Nodes.{AsBuilt}
 use Rattle.mmt.specs.Build.{builtNodes}
+use Rattle.calls.specs.Composed.{Searches, defined}
+use Rattle.calls.specs.Handles.{nodeDefined}
+use Rattle.handle.specs.Bare as handle
 use Rattle.family.specs.Family as family
 use Rattle.sibling.specs.Siblings as sibling
 use Rattle.level.specs.Levels as level
-use Rattle.search.specs.Composed.{Searches, defined}
-use Rattle.search.specs.Handles.{nodeDefined}
 use Rattle.ends.specs.Ends.{rightmostDefined}
 use Rattle.demands.specs.Questions.{Question, parent, firstChild, lastChild, nextSibling, previousSibling, levelNext, levelPrev, levelLeftmost, levelRightmost, promised, definition}
 use Rattle.demands.specs.Handles.{Handle, atDepth, childOf, children}
@@ -74,7 +75,7 @@ module _ (ws : List ℕ) (n : ℕ) where
       children-rise = λ v o.
           let (e, d) = closing ws n t v o in
           rises (childOf ws n v) ask nextSibling n (firstChild v)
-          (is (firstChild v) ∙ passed v (family.firstChild ws n v) o ∙ first-child ws n t v e o d)
+          (is (firstChild v) ∙ passed v (handle.firstChild ws n v) o ∙ first-child ws n t v e o d)
           (λ w h. by (nextSibling w) sibling.nextSibling w refl (kid ws n t v e o d w h .open-is) ∙ next-sibling ws n t v e o d w h);
       children-fall = λ v o.
           let (e, d) = closing ws n t v o in

@@ -21,10 +21,10 @@ use Rattle.stretch.specs.declared.bits.Scanned.{Scanned}
 use Rattle.stretch.specs.declared.bits.Scanned.the-variants.{Hit, Left}
 use Rattle.stretch.specs.Scan.{less, scan}
 use Rattle.layout.specs.Layout.{inner, count}
-use Rattle.mmt.specs.Nodes.{nodeAt}
+use Rattle.node.specs.Nodes.{nodeAt}
 use Rattle.walk.specs.Walk.{examine, Climb, turn, out, misfit, last, sibling, climb, Descent, leaf, lost, nearer, farther, descend, Walk, found, far, ends, startBlock, startScan, inLeaf, land, after, inStart, walk}
 use Rattle.walk.proofs.Right.{inside}
-use Rattle.search.specs.Composed.{walked}
+use Rattle.calls.specs.Composed.{walked}
 
 -- ---- a scan
 scan-same : (w : Way) (f g : ℕ → ℕ) (n : ℕ) → ((k : ℕ) → k < n → f k ≡ g k) → (c a : ℕ) (r : ℤ) → (0 < c → a + c ≤ n)

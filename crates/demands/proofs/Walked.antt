@@ -20,7 +20,7 @@ use Rattle.stretch.specs.declared.bits.Scanned.{Scanned}
 use Rattle.stretch.specs.declared.bits.Scanned.the-variants.{Hit, Left}
 use Rattle.stretch.specs.Scan.{less, scan}
 use Rattle.layout.specs.Layout.{inner, count}
-use Rattle.mmt.specs.Nodes.{nodeAt}
+use Rattle.node.specs.Nodes.{nodeAt}
 use Rattle.walk.specs.Walk.{fits, Climb, turn, out, misfit, climb, Descent, leaf, lost, descend, found, far, ends, startBlock, startScan, inLeaf, land, after, inStart, walk}
 use Rattle.walk.proofs.Right.{inside}
 use Rattle.ends.specs.Ends.{ones, lastStart, inRow, rootStart}

@@ -5,7 +5,7 @@ use mathlib.Core.List.{List, [], _∷_, map}
 use Prim.Native.Nat.{ℕ}
 use lib.IntN.{pos, negsuc}
 use Rattle.row.specs.Answer.{Answer, at, nothing}
-use Rattle.mmt.specs.Nodes.{written}
+use Rattle.node.specs.Nodes.{written}
 use Rattle.demands.specs.Questions.{Question, fwdSearch, bwdSearch, enclose, levelAncestor, levelNext, levelPrev, levelRightmost, promised, definition}
 
 -- a row of n bits, a question on it, and the answer that it is to have

@@ -8,14 +8,16 @@ use lib.ListN.{length}
 use Rattle.row.specs.Answer.{Answer}
 use Rattle.row.specs.Gates.{rowGate, handleGate, through}
 use Rattle.row.specs.Search as search
-use Rattle.search.specs.Searches.{fwdAnswer, bwdAnswer, outward}
+use Rattle.handle.specs.Bare.{handleAnswer}
+use Rattle.calls.specs.Searches.{fwdAnswer, bwdAnswer, outward}
+use Rattle.calls.specs.Composed.{defined}
+use Rattle.calls.specs.Handles.{nodeAnswer, nodeDefined}
+use Rattle.handle.specs.Bare as handle
 use Rattle.family.specs.Family as family
+use Rattle.family.specs.Family.{ancestorAnswer, ancestorDefined}
 use Rattle.sibling.specs.Siblings as sibling
 use Rattle.level.specs.Levels as level
 use Rattle.ends.specs.Ends as ends
-use Rattle.search.specs.Composed.{defined}
-use Rattle.search.specs.Handles.{handleAnswer, nodeAnswer, nodeDefined}
-use Rattle.family.specs.Family.{ancestorAnswer, ancestorDefined}
 use Rattle.ends.specs.Ends.{levelAnswer, rightmostAnswer, rightmostDefined}
 
 -- a call and what it is asked: a position and an excess r, a position, a handle, two handles, a handle and a level, a level
@@ -46,13 +48,13 @@ promised ws n s B (bwdSearch i r) = bwdAnswer ws n s B i r
 promised ws n s B (closeOf i) = fwdAnswer ws n s B i (negsuc 0)
 promised ws n s B (openOf i) = bwdAnswer ws n s B i (negsuc 0)
 promised ws n s B (enclose i) = bwdAnswer ws n s B i (outward ws n i)
-promised ws n s B root = through (rowGate (length ws) n) (family.root n)
+promised ws n s B root = through (rowGate (length ws) n) (handle.root n)
 promised ws n s B (parent v) = nodeAnswer family.parent ws n s B v
-promised ws n s B (firstChild v) = handleAnswer family.firstChild ws n v
+promised ws n s B (firstChild v) = handleAnswer handle.firstChild ws n v
 promised ws n s B (lastChild v) = nodeAnswer sibling.lastChild ws n s B v
 promised ws n s B (nextSibling v) = nodeAnswer sibling.nextSibling ws n s B v
 promised ws n s B (previousSibling v) = nodeAnswer sibling.previousSibling ws n s B v
-promised ws n s B (isLeaf v) = handleAnswer family.isLeaf ws n v
+promised ws n s B (isLeaf v) = handleAnswer handle.isLeaf ws n v
 promised ws n s B (isAncestor a d) = ancestorAnswer ws n s B a d
 promised ws n s B (levelAncestor v k) = nodeAnswer (level.levelAncestor k) ws n s B v
 promised ws n s B (levelNext v) = nodeAnswer level.levelNext ws n s B v
@@ -67,13 +69,13 @@ definition ws n (bwdSearch i r) = search.bwd ws n i r
 definition ws n (closeOf i) = search.fwd ws n i (negsuc 0)
 definition ws n (openOf i) = search.bwd ws n i (negsuc 0)
 definition ws n (enclose i) = search.bwd ws n i (outward ws n i)
-definition ws n root = family.root n
+definition ws n root = handle.root n
 definition ws n (parent v) = nodeDefined family.parent ws n v
-definition ws n (firstChild v) = through (handleGate ws n v) (family.firstChild ws n v)
+definition ws n (firstChild v) = through (handleGate ws n v) (handle.firstChild ws n v)
 definition ws n (lastChild v) = nodeDefined sibling.lastChild ws n v
 definition ws n (nextSibling v) = nodeDefined sibling.nextSibling ws n v
 definition ws n (previousSibling v) = nodeDefined sibling.previousSibling ws n v
-definition ws n (isLeaf v) = through (handleGate ws n v) (family.isLeaf ws n v)
+definition ws n (isLeaf v) = through (handleGate ws n v) (handle.isLeaf ws n v)
 definition ws n (isAncestor a d) = ancestorDefined ws n a d
 definition ws n (levelAncestor v k) = nodeDefined (level.levelAncestor k) ws n v
 definition ws n (levelNext v) = nodeDefined level.levelNext ws n v

@@ -15,7 +15,7 @@ use Rattle.row.specs.Tree.{OneTree}
 use Rattle.row.specs.Way.{Way, forward, backward, Before}
 use Rattle.tree.specs.OneTree.{oneTreeAnswer}
 use Rattle.layout.specs.Layout.{width, count, Fine}
-use Rattle.mmt.specs.Nodes.{AsBuilt}
+use Rattle.node.specs.Nodes.{AsBuilt}
 use Rattle.mmt.specs.Build.{builtNodes}
 use Rattle.mmt.specs.Check.{asBuiltAnswer}
 use Rattle.demands.specs.Questions.{Question, fwdSearch, bwdSearch, promised, definition}

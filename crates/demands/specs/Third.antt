@@ -14,7 +14,7 @@ use Rattle.row.specs.Answer.{Answer, at, nothing}
 use Rattle.row.specs.Excess.{E}
 use Rattle.row.specs.Tree.{OneTree}
 use Rattle.layout.specs.Layout.{Fine}
-use Rattle.mmt.specs.Nodes.{AsBuilt}
+use Rattle.node.specs.Nodes.{AsBuilt}
 use Rattle.mmt.specs.Build.{builtNodes}
 use Rattle.listing.specs.Listing.{made}
 use Rattle.listing.specs.Steps.{answerAt, nth}

@@ -16,7 +16,7 @@ use lib.IntN.{ℤ}
 use Rattle.row.specs.Way.{Way}
 use Rattle.stretch.specs.declared.numbers.Numbers.{Numbers}
 use Rattle.stretch.specs.Scan.{passed}
-use Rattle.mmt.specs.Nodes.{nodeAt}
+use Rattle.node.specs.Nodes.{nodeAt}
 use Rattle.layout.proofs.Places.{Place}
 use Rattle.walk.specs.Walk.{fits, holdsOn, Descent, nearer, farther, descend}
 use Rattle.walk.proofs.Ways.{near-place, far-place, chosen, alike}

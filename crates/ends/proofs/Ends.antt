@@ -19,13 +19,13 @@ use Rattle.row.specs.Answer.{Answer, at, nothing, refused, numberOf}
 use Rattle.row.specs.Gates.{through}
 use Rattle.row.specs.Way.{forward, backward}
 use Rattle.layout.specs.Layout.{nodesGate}
-use Rattle.mmt.specs.Nodes.{AsBuilt}
 use Rattle.layout.proofs.Admitted.{gate-fine}
+use Rattle.node.specs.Nodes.{AsBuilt}
 use Rattle.walk.specs.Walk.{walk}
+use Rattle.calls.specs.Composed.{Searches, walked, defined, onward, openOf}
+use Rattle.calls.specs.Searches.{WhereBuilt}
+use Rattle.calls.proofs.Defined.{call-defined}
 use Rattle.walking.proofs.Answers.{walk-end}
-use Rattle.search.specs.Composed.{Searches, walked, defined, onward, openOf}
-use Rattle.search.specs.Searches.{WhereBuilt}
-use Rattle.search.proofs.Defined.{call-defined}
 use Rattle.level.proofs.Levels.{walk-beyond}
 use Rattle.ends.specs.Ends.{levelLeftmost, levelRightmost, rootStart, lastStart, levelAnswer, rightmostAnswer, rightmostDefined}
 use Rattle.ends.proofs.Rightmost.{rightmost-right}

@@ -32,13 +32,13 @@ use Rattle.row.proofs.Meaning.{bwd-past}
 use Rattle.stretch.specs.Numbers.{numbersOf}
 use Rattle.stretch.proofs.Covers.{numbers-total}
 use Rattle.layout.specs.Layout.{leaves, innerFor, count}
-use Rattle.mmt.specs.Nodes.{nodeAt, AsBuilt}
 use Rattle.layout.proofs.Powers.{inner-top, inner-room, leaves-out}
 use Rattle.layout.proofs.Places.{count-is, blockAt, block-out, reach, reach-next, Place}
-use Rattle.mmt.proofs.Covered.{startOf, top, node-is}
+use Rattle.node.specs.Nodes.{nodeAt, AsBuilt}
+use Rattle.node.proofs.Covered.{startOf, top, node-is}
 use Rattle.walk.specs.Walk.{fits}
 use Rattle.walk.proofs.Told.{numbers-fit}
-use Rattle.search.specs.Composed.{defined, onward, openOf}
+use Rattle.calls.specs.Composed.{defined, onward, openOf}
 use Rattle.ends.specs.Ends.{levelRightmost, ones, lastStart, inRow, rootStart}
 
 -- ---- the start over any nodes

@@ -10,9 +10,9 @@ use Rattle.row.specs.Answer.{Answer, at, nothing, refused}
 use Rattle.row.specs.Bits.{bitAt}
 use Rattle.row.specs.Gates.{through}
 use Rattle.layout.specs.Layout.{nodesGate}
-use Rattle.mmt.specs.Nodes.{nodeAt}
+use Rattle.node.specs.Nodes.{nodeAt}
 use Rattle.walk.specs.Walk.{fits}
-use Rattle.search.specs.Composed.{Searches, walked, defined, onward, openOf}
+use Rattle.calls.specs.Composed.{Searches, walked, defined, onward, openOf}
 
 module _ (ws : List ℕ) (n : ℕ) (s : Searches) where
   -- level_leftmost(k): 0 if k = 0 and n > 0, else fwd(0, k)

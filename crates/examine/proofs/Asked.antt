@@ -24,7 +24,7 @@ use Rattle.row.specs.Way.{Way, forward, backward}
 use Rattle.row.proofs.Bools.{and-left, and-right}
 use Rattle.stretch.specs.declared.numbers.Numbers.{Numbers}
 use Rattle.stretch.specs.Scan.{passed}
-use Rattle.mmt.specs.Nodes.{nodeAt}
+use Rattle.node.specs.Nodes.{nodeAt}
 use Rattle.walk.specs.Walk.{near, fits, holdsOn}
 use Rattle.examine.specs.declared.ask.Examined.{Examined}
 use Rattle.examine.specs.declared.ask.Examined.the-variants.{Fit, Misfit as MisfitNode}

@@ -8,7 +8,7 @@ use lib.IntN.{ℤ}
 use Rattle.ints.specs.Sides.{size}
 use Rattle.row.specs.Way.{Way}
 use Rattle.stretch.specs.declared.numbers.Numbers.{Numbers}
-use Rattle.mmt.specs.Nodes.{nodeAt}
+use Rattle.node.specs.Nodes.{nodeAt}
 use Rattle.walk.specs.Walk.{fits, examine}
 use Rattle.examine.specs.declared.ask.Examined.{Examined}
 use Rattle.examine.specs.declared.ask.Examined.the-variants.{Fit, Misfit as MisfitNode}

@@ -4,7 +4,7 @@ ghost use Prim.Native.Nat.{_+_, _*_, _≤_};
 ghost use lib.ListN.{length};
 ghost use Rattle.row.specs.Way.{forward, backward};
 ghost use Rattle.layout.specs.Layout.{width};
-ghost use Rattle.mmt.specs.Nodes.{nodeAt};
+ghost use Rattle.node.specs.Nodes.{nodeAt};
 ghost use Rattle.walk.specs.Walk.{near};
 ghost use Rattle.examine.specs.Asked.{examinedOf, askedOf, Room};
 use stretch::Numbers;
@@ -34,7 +34,7 @@ pub fn examine(nodes: &[i64], k: usize) -> Examined
     requires { ⌜ width * (k + 1) ≤ length (now nodes) ⌝ }
     ensures { λ a. ⌜ a ≡ examinedOf (nodeAt (now (nodes .entry)) k) ⌝ }
 {
-    let x = mmt::node_at(nodes, k);
+    let x = node::node_at(nodes, k);
     if !near_zero(x.total) {
         return Examined::Misfit;
     }

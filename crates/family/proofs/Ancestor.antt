@@ -11,9 +11,9 @@ use Rattle.row.specs.declared.gate.Gate.the-variants.{Open, Shut}
 use Rattle.row.specs.Answer.{Answer, refused, numberOf}
 use Rattle.row.specs.Gates.{andThen}
 use Rattle.layout.specs.Layout.{nodesGate}
-use Rattle.search.specs.Searches.{WhereBuilt}
-use Rattle.search.specs.Composed.{walked}
-use Rattle.search.proofs.Nodes.{gates-shut, gates-open}
+use Rattle.calls.specs.Searches.{WhereBuilt}
+use Rattle.calls.specs.Composed.{walked}
+use Rattle.calls.proofs.Nodes.{gates-shut, gates-open}
 use Rattle.family.specs.Family.{isAncestor, bothGate, ancestorAnswer, ancestorDefined}
 
 module _ (ws : List ℕ) (n : ℕ) (s : List ℤ) (B a d : ℕ) where

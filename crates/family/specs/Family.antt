@@ -1,35 +1,19 @@
 -- The calls on nodes in document 01's words, over any two searches, but for the last child and the siblings; and what is_ancestor
 -- answers, which takes two handles.
 -- Assumes nothing.
-use mathlib.Core.Bool.{cond, _&&_}
+use mathlib.Core.Bool.{_&&_}
 use mathlib.Core.List.{List}
-use Prim.Native.Nat.{ℕ, _+_}
+use Prim.Native.Nat.{ℕ}
 use lib.Dec.{ltb, leb}
 use lib.IntN.{ℤ}
 use lib.ListN.{length}
 use Rattle.row.specs.declared.gate.Gate.{Gate}
 use Rattle.row.specs.Answer.{Answer, at, nothing}
 use Rattle.row.specs.Gates.{handleGate, andThen, through}
-use Rattle.row.specs.Tree.{closes}
 use Rattle.layout.specs.Layout.{nodesGate}
-use Rattle.search.specs.Searches.{outward}
-use Rattle.search.specs.Composed.{Searches, walked, defined, onward, told, handleAt, closeOf}
-
--- ---- without a search
-
--- root: 0, nothing if n = 0
-unfoldable pub root : ℕ → Answer
-root n = cond (ltb 0 n) (at 0) nothing
-
--- first_child(v): v+1 if that bit opens
-unfoldable pub firstChild : List ℕ → ℕ → ℕ → Answer
-firstChild ws n v = handleAt ws n (v + 1)
-
--- is_leaf(v): bit v+1 exists and closes
-unfoldable pub isLeaf : List ℕ → ℕ → ℕ → Answer
-isLeaf ws n v = told (closes ws n (v + 1))
-
--- ---- by searches
+use Rattle.handle.specs.Bare.{told}
+use Rattle.calls.specs.Searches.{outward}
+use Rattle.calls.specs.Composed.{Searches, walked, defined, onward, closeOf}
 
 module _ (ws : List ℕ) (n : ℕ) (s : Searches) where
   -- parent is enclose: bwd(i, -1) at an open bit, bwd(i, -2) at a close bit

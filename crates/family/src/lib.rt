@@ -1,105 +1,30 @@
-// The calls on nodes, but for the last child and the siblings, which stand above in `sibling`. A node is its handle, the position at
-// which it opens: refusal 5 where that is not an open bit of the row. Those that search nothing take no node numbers: refusals 2 and 3,
-// and 5 where a handle is taken. The others make one search: refusals 1 to 5 in their order, and 8.
+// The calls that go outward from a node: its parent, and whether it lies within another. Refusals 1 to 5 in their order, and 8; each makes
+// one search.
 //
-// What a search answers is passed on as it stands, nothing and refusals too.
+// What the search answers is passed on as it stands, nothing and refusals too.
 ghost use mathlib.Core.Path.{_≡_};
 ghost use mathlib.Core.Bool.{_&&_};
-ghost use Prim.Native.Nat.{_+_, _*_, _≤_, _<_};
+ghost use Prim.Native.Nat.{_<_};
 ghost use lib.Dec.{leb, ltb};
 ghost use lib.ListN.{length};
 ghost use Rattle.row.specs.Answer.{paperFound, paperTold};
-ghost use Rattle.row.specs.Gates.{rowGate, andThen, through};
-ghost use Rattle.row.specs.Tree.{opens};
+ghost use Rattle.row.specs.Gates.{andThen};
 ghost use Rattle.layout.specs.Layout.{nodesGate, Fine};
-ghost use Rattle.search.specs.Searches.{WhereBuilt};
-ghost use Rattle.search.specs.Composed.{walked, told, handleAt};
-ghost use Rattle.family.specs.Family.{root, firstChild, isLeaf, parent, isAncestor};
-ghost use Rattle.search.specs.Handles.{handleAnswer, nodeAnswer, nodeDefined};
-ghost use Rattle.family.specs.Family.{bothGate, ancestorAnswer, ancestorDefined};
+ghost use Rattle.handle.specs.Bare.{told};
+ghost use Rattle.calls.specs.Searches.{WhereBuilt};
+ghost use Rattle.calls.specs.Composed.{walked};
+ghost use Rattle.calls.specs.Handles.{nodeAnswer, nodeDefined};
+ghost use Rattle.family.specs.Family.{parent, isAncestor, bothGate, ancestorAnswer, ancestorDefined};
 use row::Found;
 use row::Gate;
 use row::Told;
-
-// 0, nothing if n = 0.
-pub fn root(words: &[u64], n: usize) -> Found
-    ensures { λ a. ⌜ paperFound a ≡ through (rowGate (length (now (words .entry))) n) (root n) ⌝ }
-{
-    match row::admit_row(words.len(), n) {
-        Gate::Shut(k) => Found::Refused(k),
-        Gate::Open => { if 0 < n { Found::At(0) } else { Found::Nothing } }
-    }
-}
-
-// Whether i is an open bit of the row. `sibling` asks it before it looks for a last child.
-pub fn is_open(words: &[u64], n: usize, i: usize) -> bool
-    requires { ⌜ n ≤ 64 * length (now words) ⌝ }
-    ensures { λ r. ⌜ r ≡ opens (now (words .entry)) n i ⌝ }
-{
-    if n <= i {
-        false
-    } else {
-        row::opens_at(words, i)
-    }
-}
-
-// c + 1, if that is an open bit of the row: the first child where c is a handle; in `sibling`, where c is a close, the next sibling.
-pub fn handle_after(words: &[u64], n: usize, c: usize) -> Found
-    requires { ⌜ n ≤ 64 * length (now words) ⌝ }
-    requires { ⌜ c < n ⌝ }
-    ensures { λ a. ⌜ paperFound a ≡ handleAt (now (words .entry)) n (c + 1) ⌝ }
-{
-    let i = c + 1;
-    if is_open(words, n, i) {
-        Found::At(i)
-    } else {
-        Found::Nothing
-    }
-}
-
-// v + 1, if that bit opens.
-pub fn first_child(words: &[u64], n: usize, v: usize) -> Found
-    ensures { λ a. ⌜ paperFound a ≡ handleAnswer firstChild (now (words .entry)) n v ⌝ }
-{
-    match search::admit_handle(words, n, v) {
-        Gate::Shut(k) => Found::Refused(k),
-        Gate::Open => handle_after(words, n, v),
-    }
-}
-
-// Whether bit v + 1 exists and closes.
-pub fn is_leaf(words: &[u64], n: usize, v: usize) -> Told
-    ensures { λ a. ⌜ paperTold a ≡ handleAnswer isLeaf (now (words .entry)) n v ⌝ }
-{
-    match search::admit_handle(words, n, v) {
-        Gate::Shut(k) => Told::Refused(k),
-        Gate::Open => leaf_at(words, n, v),
-    }
-}
-
-// The same, once the tests are passed.
-fn leaf_at(words: &[u64], n: usize, v: usize) -> Told
-    requires { ⌜ n ≤ 64 * length (now words) ⌝ }
-    requires { ⌜ v < n ⌝ }
-    ensures { λ a. ⌜ paperTold a ≡ isLeaf (now (words .entry)) n v ⌝ }
-{
-    let i = v + 1;
-    if n <= i {
-        return Told::No;
-    }
-    if row::opens_at(words, i) {
-        Told::No
-    } else {
-        Told::Yes
-    }
-}
 
 // enclose(v): a handle opens, so one level back.
 pub fn parent(words: &[u64], n: usize, nodes: &[i64], block: usize, v: usize) -> Found
     ensures { λ a. ⌜ paperFound a ≡ nodeAnswer parent (now (words .entry)) n (now (nodes .entry)) block v ⌝ }
     ensures { λ a. ⌜ WhereBuilt (now (words .entry)) n (now (nodes .entry)) block (paperFound a) (nodeDefined parent (now (words .entry)) n v) ⌝ }
 {
-    match search::admit_node(words, n, nodes, block, v) {
+    match handle::admit_node(words, n, nodes, block, v) {
         Gate::Shut(k) => Found::Refused(k),
         Gate::Open => walking::walk_bwd(words, n, nodes, block, v, -1),
     }
@@ -109,7 +34,7 @@ pub fn parent(words: &[u64], n: usize, nodes: &[i64], block: usize, v: usize) ->
 fn admit_both(words: &[u64], n: usize, nodes: &[i64], block: usize, a: usize, d: usize) -> Gate
     ensures { λ g. ⌜ g ≡ andThen (nodesGate (length (now (words .entry))) n (length (now (nodes .entry))) block) (bothGate (now (words .entry)) n a d) ⌝ }
 {
-    match search::admit_node(words, n, nodes, block, a) {
+    match handle::admit_node(words, n, nodes, block, a) {
         Gate::Shut(k) => Gate::Shut(k),
         Gate::Open => row::admit_handle(words, n, d),
     }

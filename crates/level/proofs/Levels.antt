@@ -28,8 +28,8 @@ use Rattle.row.specs.declared.refusal.Refusal.{Refusal}
 use Rattle.row.specs.Answer.{Answer, at, nothing, refused, numberOf, paperFound}
 use Rattle.row.specs.Way.{Way, backward}
 use Rattle.walk.specs.Walk.{ends, walk}
+use Rattle.calls.specs.Composed.{Searches, walked, onward, openOf}
 use Rattle.walking.proofs.Answers.{walk-end, walk-far}
-use Rattle.search.specs.Composed.{Searches, walked, onward, openOf}
 use Rattle.level.specs.Levels.{levelAncestor, levelNext, levelPrev}
 
 -- ---- what a search passes on

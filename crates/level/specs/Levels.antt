@@ -7,7 +7,7 @@ use Prim.Native.Nat.{ℕ}
 use lib.Dec.{eqb}
 use lib.IntN.{pos, negℤ}
 use Rattle.row.specs.Answer.{Answer, at}
-use Rattle.search.specs.Composed.{Searches, onward, closeOf, openOf}
+use Rattle.calls.specs.Composed.{Searches, onward, closeOf, openOf}
 
 module _ (ws : List ℕ) (n : ℕ) (s : Searches) where
   -- level_next(v): fwd(close(v), 1)

@@ -8,13 +8,13 @@ ghost use lib.Dec.{ltb};
 ghost use lib.ListN.{length};
 ghost use Rattle.row.specs.Answer.{paperFound};
 ghost use Rattle.layout.specs.Layout.{Fine};
-ghost use Rattle.search.specs.Composed.{walked, onward, openOf};
+ghost use Rattle.calls.specs.Composed.{walked, onward, openOf};
+ghost use Rattle.calls.specs.Handles.{nodeAnswer, nodeDefined};
+ghost use Rattle.calls.specs.Searches.{WhereBuilt};
 ghost use Rattle.level.specs.Levels.{levelAncestor, levelNext, levelPrev};
-ghost use Rattle.search.specs.Handles.{nodeAnswer, nodeDefined};
-ghost use Rattle.search.specs.Searches.{WhereBuilt};
+use handle::admit_node;
 use row::Found;
 use row::Gate;
-use search::admit_node;
 use walking::walk_bwd;
 use walking::walk_fwd;
 

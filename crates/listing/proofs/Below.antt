@@ -21,12 +21,13 @@ use Rattle.row.specs.Bits.{bitAt}
 use Rattle.row.specs.Gates.{handleGate, through}
 use Rattle.row.specs.Tree.{opens, closes}
 use Rattle.row.proofs.Bools.{and-left}
+use Rattle.handle.specs.Bare.{handleAt, firstChild}
+use Rattle.handle.proofs.Gates.{handle-inside}
 use Rattle.walk.proofs.Inside.{walk-after, walk-before}
-use Rattle.search.specs.Composed.{Searches, walked, onward, handleAt, closeOf, openOf}
-use Rattle.family.specs.Family.{firstChild}
+use Rattle.calls.specs.Composed.{Searches, walked, onward, closeOf, openOf}
+use Rattle.calls.specs.Handles.{nodeAnswer}
+use Rattle.calls.proofs.Nodes.{passed-fine, passed-handle}
 use Rattle.sibling.specs.Siblings.{lastChild, nextSibling, previousSibling}
-use Rattle.search.specs.Handles.{nodeAnswer}
-use Rattle.search.proofs.Nodes.{passed-fine, passed-handle, handle-inside}
 use Rattle.wire.specs.Answer.{Small}
 use Rattle.listing.specs.Listing.{startCall, nextCall, sought, after}
 use Rattle.listing.specs.Whole.{Below}

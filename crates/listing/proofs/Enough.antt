@@ -12,7 +12,7 @@ use native.Mathlib.Decide.{decLt}
 use lib.IntN.{ℤ}
 use lib.ListN.{length}
 use Rattle.row.specs.Answer.{Answer, at, nothing, refused}
-use Rattle.search.proofs.Nodes.{passed-fine}
+use Rattle.calls.proofs.Nodes.{passed-fine}
 use Rattle.listing.specs.Listing.{sought, after}
 use Rattle.listing.specs.Whole.{Below, answers, unlessRefused, answersOf, countOf}
 use Rattle.listing.proofs.Sought.{Unrefused, sought-open}

@@ -24,8 +24,8 @@ use Rattle.row.proofs.Bools.{and-both}
 use Rattle.row.proofs.Digits.{digit-lt}
 use Rattle.row.proofs.Excess.{Near, sign-close, steps}
 use Rattle.row.proofs.Meaning.{IsBwd, fwd-is, bwd-is}
-use Rattle.search.specs.Composed.{defined, onward, handleAt}
-use Rattle.family.specs.Family.{firstChild}
+use Rattle.handle.specs.Bare.{handleAt, firstChild}
+use Rattle.calls.specs.Composed.{defined, onward}
 use Rattle.sibling.specs.Siblings.{lastChild, nextSibling, previousSibling}
 use Rattle.listing.specs.Listing.{startCall, nextCall}
 

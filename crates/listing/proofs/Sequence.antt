@@ -22,10 +22,10 @@ use Rattle.row.specs.Answer.{Answer, at, nothing, refused, paperFound}
 use Rattle.row.specs.Gates.{handleGate, through}
 use Rattle.row.specs.Tree.{opens}
 use Rattle.layout.specs.Layout.{nodesGate}
-use Rattle.mmt.specs.Nodes.{AsBuilt}
-use Rattle.search.specs.Composed.{Searches, defined, onward}
-use Rattle.search.specs.Handles.{nodeAnswer}
-use Rattle.search.proofs.Defined.{call-defined}
+use Rattle.node.specs.Nodes.{AsBuilt}
+use Rattle.calls.specs.Composed.{Searches, defined, onward}
+use Rattle.calls.specs.Handles.{nodeAnswer}
+use Rattle.calls.proofs.Defined.{call-defined}
 use Rattle.listing.specs.declared.view.Children.{Children}
 use Rattle.listing.specs.declared.view.Made.{Made}
 use Rattle.listing.specs.declared.view.Step.{Step}

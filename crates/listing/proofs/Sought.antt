@@ -16,9 +16,9 @@ use Rattle.row.specs.declared.gate.Gate.the-variants.{Open, Shut}
 use Rattle.row.specs.Answer.{Answer, at, nothing, refused, numberOf, paperFound}
 use Rattle.row.specs.Gates.{rowGate, handleGate, andThen}
 use Rattle.layout.specs.Layout.{blockGate, roomGate, nodesGate}
-use Rattle.family.specs.Family.{firstChild}
-use Rattle.search.specs.Handles.{handleAnswer, nodeAnswer}
-use Rattle.search.proofs.Nodes.{then-open}
+use Rattle.handle.specs.Bare.{firstChild, handleAnswer}
+use Rattle.handle.proofs.Gates.{then-open}
+use Rattle.calls.specs.Handles.{nodeAnswer}
 use Rattle.listing.specs.declared.seek.Start.{Start}
 use Rattle.listing.specs.Listing.{sought, making, begun, Starts}
 

@@ -8,10 +8,10 @@ use lib.IntN.{ℤ}
 use denote.Ref.{RefT, now}
 use Rattle.row.specs.Answer.{Answer, at, nothing, refused, paperFound}
 use Rattle.row.specs.Gates.{through}
-use Rattle.search.specs.Composed.{Searches}
-use Rattle.family.specs.Family.{firstChild}
+use Rattle.handle.specs.Bare.{firstChild}
+use Rattle.calls.specs.Composed.{Searches}
+use Rattle.calls.specs.Handles.{nodeAnswer}
 use Rattle.sibling.specs.Siblings.{lastChild, nextSibling, previousSibling}
-use Rattle.search.specs.Handles.{nodeAnswer}
 use Rattle.listing.specs.declared.seek.Start.{Start}
 
 -- children starts at first_child, rev_children at last_child

@@ -5,7 +5,7 @@ use mathlib.Core.Bool.{Bool}
 use mathlib.Core.List.{List, [], _∷_}
 use Prim.Native.Nat.{ℕ, zero, suc}
 use Rattle.row.specs.Answer.{Answer, at, nothing}
-use Rattle.search.specs.Composed.{defined, onward}
+use Rattle.calls.specs.Composed.{defined, onward}
 use Rattle.listing.specs.declared.view.Children.{Children}
 use Rattle.listing.specs.declared.view.Step.{Step}
 use Rattle.listing.specs.Listing.{Listing, startCall, nextCall, stepped}

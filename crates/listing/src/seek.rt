@@ -38,9 +38,9 @@ fn opening(found: Found) -> Start
 fn first_child(words: &[u64], n: usize, nodes: &[i64], block: usize, v: usize) -> Found
     ensures { λ a. ⌜ paperFound a ≡ sought true (now (words .entry)) n (now (nodes .entry)) block v ⌝ }
 {
-    match bp::admit_node(words, n, nodes, block, v) {
+    match handle::admit_node(words, n, nodes, block, v) {
         Gate::Shut(k) => Found::Refused(k),
-        Gate::Open => bp::first_child(words, n, v),
+        Gate::Open => handle::first_child(words, n, v),
     }
 }
 
@@ -55,7 +55,7 @@ pub fn first(words: &[u64], n: usize, nodes: &[i64], block: usize, v: usize) -> 
 pub fn last(words: &[u64], n: usize, nodes: &[i64], block: usize, v: usize) -> Start
     ensures { λ s. ⌜ Starts (sought false (now (words .entry)) n (now (nodes .entry)) block v) s ⌝ }
 {
-    opening(bp::last_child(words, n, nodes, block, v))
+    opening(sibling::last_child(words, n, nodes, block, v))
 }
 
 // What a listing holds once it has answered what it held.
@@ -72,9 +72,9 @@ pub fn after(
     match held {
         Found::At(v) => {
             if rising {
-                bp::next_sibling(words, n, nodes, block, v)
+                sibling::next_sibling(words, n, nodes, block, v)
             } else {
-                bp::previous_sibling(words, n, nodes, block, v)
+                sibling::previous_sibling(words, n, nodes, block, v)
             }
         }
         Found::Nothing => Found::Nothing,

@@ -16,12 +16,12 @@ use Rattle.row.specs.declared.refusal.Refusal.{Refusal}
 use Rattle.row.specs.declared.gate.Gate.the-variants.{Open, Shut}
 use Rattle.stretch.specs.declared.numbers.Numbers.{Numbers}
 use Rattle.layout.specs.Layout.{width, leaves, inner, count, nodesGate}
-use Rattle.mmt.specs.Nodes.{nodeAt, withNode, leafOf, nodeFrom, Ruled, written}
+use Rattle.node.specs.Nodes.{nodeAt, withNode, leafOf, nodeFrom, Ruled, written}
 use Rattle.mmt.specs.Build.{builtNodes}
 use Rattle.mmt.specs.Filling.{Filled, Leveled}
 use Rattle.layout.proofs.Admitted.{layout-leaves}
-use Rattle.mmt.proofs.Nodes.{from-leaf, from-ext, put-length, node-put, other-number, node-other}
-use Rattle.mmt.proofs.Written.{ruled-of, written-is}
+use Rattle.node.proofs.Nodes.{from-leaf, from-ext, put-length, node-put, other-number, node-other}
+use Rattle.node.proofs.Written.{ruled-of, written-is}
 
 -- ---- leaves
 pub filled-more : (ws : List ℕ) (n B b : ℕ) (part : List ℤ) (x : Numbers) → width * (b + 1) ≤ length part → x ≡ leafOf ws n B b → Filled ws n B b part → Filled ws n B (b + 1) (withNode part b x)

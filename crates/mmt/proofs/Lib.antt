@@ -1,5 +1,2 @@
-pub mod Nodes
-pub mod Covered
-pub mod Written
 pub mod Filled
 pub mod Tested

@@ -26,7 +26,7 @@ use Rattle.row.proofs.Bools.{and-left, and-right, and-both}
 use Rattle.row.proofs.Tree.{all-each, each-all}
 use Rattle.stretch.specs.declared.numbers.Numbers.{Numbers}
 use Rattle.layout.specs.Layout.{width, count, nodesGate}
-use Rattle.mmt.specs.Nodes.{nodeAt, nodeFrom, Ruled, AsBuilt}
+use Rattle.node.specs.Nodes.{nodeAt, nodeFrom, Ruled, AsBuilt}
 use Rattle.mmt.specs.Check.{sameNumbers, builtTest, asBuiltAnswer, Decides}
 use Rattle.layout.proofs.Admitted.{gate-fine}
 

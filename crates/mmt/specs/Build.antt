@@ -6,7 +6,7 @@ use lib.IntN.{ℤ}
 use lib.ListN.{length, drop}
 use Rattle.row.specs.Gates.{kept}
 use Rattle.layout.specs.Layout.{width, count, nodesGate}
-use Rattle.mmt.specs.Nodes.{written}
+use Rattle.node.specs.Nodes.{written}
 
 -- the buffer after the call: the numbers that document 01 gives, followed by what stood past them; a refusal leaves all
 unfoldable pub builtNodes : List ℕ → ℕ → List ℤ → ℕ → List ℤ

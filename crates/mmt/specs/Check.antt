@@ -15,7 +15,7 @@ use Rattle.row.specs.Gates.{through}
 use Rattle.row.specs.Tree.{allBelow}
 use Rattle.stretch.specs.declared.numbers.Numbers.{Numbers}
 use Rattle.layout.specs.Layout.{count, nodesGate}
-use Rattle.mmt.specs.Nodes.{nodeAt, nodeFrom, AsBuilt}
+use Rattle.node.specs.Nodes.{nodeAt, nodeFrom, AsBuilt}
 
 -- all three numbers are the same
 unfoldable pub sameNumbers : Numbers → Numbers → Bool

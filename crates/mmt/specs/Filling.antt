@@ -7,7 +7,7 @@ use Prim.Native.Nat.{ℕ, _*_, _≤_, _<_}
 use lib.IntN.{ℤ, pos}
 use lib.ListN.{getD, length}
 use Rattle.layout.specs.Layout.{width, count}
-use Rattle.mmt.specs.Nodes.{nodeAt, leafOf, Ruled}
+use Rattle.node.specs.Nodes.{nodeAt, leafOf, Ruled}
 
 -- the leaves' part of the buffer, its first b leaves filled
 abbrev pub Filled : List ℕ → ℕ → ℕ → ℕ → List ℤ → Type 0

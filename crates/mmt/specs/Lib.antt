@@ -1,4 +1,3 @@
-pub mod Nodes
 pub mod Build
 pub mod Filling
 pub mod Check

@@ -10,7 +10,7 @@ use native.Mathlib.Omega.{arith}
 use lib.IntN.{ℤ}
 use lib.ListN.{length}
 use Rattle.row.specs.Answer.{Answer, at, nothing, refused}
-use Rattle.search.specs.Handles.{nodeAnswer}
+use Rattle.calls.specs.Handles.{nodeAnswer}
 use Rattle.level.specs.Levels.{levelNext}
 use Rattle.ends.specs.Ends.{levelLeftmost, levelAnswer}
 use Rattle.page.specs.Page.{Adds, decimalOf}

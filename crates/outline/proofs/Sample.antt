@@ -9,8 +9,8 @@ use Rattle.row.specs.Gates.{rowGate, handleGate}
 use Rattle.row.specs.Search.{least, greatest, fwd, bwd}
 use Rattle.row.specs.Tree.{opens, allBelow, oneTree}
 use Rattle.text.specs.Text.{allParentheses, packed, wordOf, wordsOf, textGate, textWords}
-use Rattle.search.specs.Handles.{nodeDefined}
-use Rattle.search.specs.Searches.{outward}
+use Rattle.calls.specs.Handles.{nodeDefined}
+use Rattle.calls.specs.Searches.{outward}
 use Rattle.family.specs.Family.{parent}
 use Rattle.demands.specs.Listing.{those}
 use Rattle.demands.specs.Handles.{atDepth}

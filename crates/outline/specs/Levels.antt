@@ -4,7 +4,7 @@ use mathlib.Core.List.{List, [], _∷_, _++_}
 use Prim.Native.Nat.{ℕ, zero, suc, _/_}
 use lib.IntN.{ℤ}
 use Rattle.row.specs.Answer.{Answer, at, nothing, refused}
-use Rattle.search.specs.Handles.{nodeAnswer}
+use Rattle.calls.specs.Handles.{nodeAnswer}
 use Rattle.level.specs.Levels.{levelNext}
 use Rattle.ends.specs.Ends.{levelLeftmost, levelAnswer}
 use Rattle.page.specs.Page.{decimalOf}

@@ -4,8 +4,8 @@ use mathlib.Core.List.{List, [], _∷_, _++_}
 use Prim.Native.Nat.{ℕ}
 use lib.IntN.{ℤ, negsuc}
 use Rattle.row.specs.Answer.{Answer, at, nothing, refused}
-use Rattle.search.specs.Searches.{fwdAnswer}
-use Rattle.search.specs.Handles.{nodeAnswer}
+use Rattle.calls.specs.Searches.{fwdAnswer}
+use Rattle.calls.specs.Handles.{nodeAnswer}
 use Rattle.family.specs.Family.{parent}
 use Rattle.page.specs.Page.{decimalOf}
 

@@ -3,10 +3,10 @@
 ghost use mathlib.Core.Path.{_≡_};
 ghost use lib.ListN.{length};
 ghost use Rattle.row.specs.Gates.{rowGate, through};
-ghost use Rattle.family.specs.Family.{root, firstChild, isLeaf, parent};
+ghost use Rattle.handle.specs.Bare.{root, firstChild, isLeaf, handleAnswer};
+ghost use Rattle.calls.specs.Handles.{nodeAnswer};
+ghost use Rattle.family.specs.Family.{parent, ancestorAnswer};
 ghost use Rattle.sibling.specs.Siblings.{lastChild, nextSibling, previousSibling};
-ghost use Rattle.search.specs.Handles.{handleAnswer, nodeAnswer};
-ghost use Rattle.family.specs.Family.{ancestorAnswer};
 ghost use Rattle.wire.specs.Answer.{wireOf};
 
 // root(): 0, nothing on the empty row.

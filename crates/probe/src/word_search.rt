@@ -7,7 +7,7 @@ ghost use Rattle.row.specs.Answer as answer;
 ghost use Rattle.row.specs.Gates.{through};
 ghost use Rattle.layout.specs.Layout.{nodesGate};
 ghost use Rattle.mmt.specs.Build.{builtNodes};
-ghost use Rattle.search.specs.Searches.{fwdAnswer, bwdAnswer, outward};
+ghost use Rattle.calls.specs.Searches.{fwdAnswer, bwdAnswer, outward};
 ghost use Rattle.wire.specs.Answer.{wireOf};
 
 // Writes the nodes of the row's bits; numbers past them stay. A refusal leaves all numbers.

@@ -9,7 +9,8 @@ use borrow.Author.Tests.{lt-ltb, le-ltb}
 use lib.IntN.{negsuc}
 use Rattle.row.specs.Answer.{at, nothing, refused}
 use Rattle.row.specs.Tree.{opens, closes}
-use Rattle.search.specs.Composed.{Searches, handleAt}
+use Rattle.handle.specs.Bare.{handleAt}
+use Rattle.calls.specs.Composed.{Searches}
 use Rattle.sibling.specs.Siblings.{lastChild, nextSibling, previousSibling}
 
 module _ (ws : List ℕ) (n : ℕ) (s : Searches) (v : ℕ) where

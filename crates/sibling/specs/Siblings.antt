@@ -6,7 +6,8 @@ use Prim.Native.Nat.{ℕ, _+_, _-_}
 use lib.Dec.{ltb}
 use Rattle.row.specs.Answer.{Answer, nothing}
 use Rattle.row.specs.Tree.{opens, closes}
-use Rattle.search.specs.Composed.{Searches, onward, handleAt, closeOf, openOf}
+use Rattle.handle.specs.Bare.{handleAt}
+use Rattle.calls.specs.Composed.{Searches, onward, closeOf, openOf}
 
 module _ (ws : List ℕ) (n : ℕ) (s : Searches) where
   -- last_child(v): if bit v+1 opens and v closes at c, open(c-1)

@@ -1,6 +1,4 @@
 // The calls that go from a node to its last child, to its next sibling and to the one before: refusals 1 to 5 in their order, and 8.
-// They use two helpers of `family`, where the other calls on nodes are, and stand apart, so that what is changed here is checked without
-// the proofs of those.
 //
 // What a search answers is passed on as it stands, nothing and refusals too. Over any node numbers it answers a position of the row,
 // forward one past its start: so neither one more nor one less wraps, and no test of that is made.
@@ -9,9 +7,9 @@ ghost use Prim.Native.Nat.{_<_};
 ghost use lib.ListN.{length};
 ghost use Rattle.row.specs.Answer.{paperFound};
 ghost use Rattle.layout.specs.Layout.{Fine};
-ghost use Rattle.search.specs.Searches.{WhereBuilt};
-ghost use Rattle.search.specs.Composed.{walked};
-ghost use Rattle.search.specs.Handles.{nodeAnswer, nodeDefined};
+ghost use Rattle.calls.specs.Searches.{WhereBuilt};
+ghost use Rattle.calls.specs.Composed.{walked};
+ghost use Rattle.calls.specs.Handles.{nodeAnswer, nodeDefined};
 ghost use Rattle.sibling.specs.Siblings.{lastChild, nextSibling, previousSibling};
 use row::Found;
 use row::Gate;
@@ -21,7 +19,7 @@ pub fn last_child(words: &[u64], n: usize, nodes: &[i64], block: usize, v: usize
     ensures { λ a. ⌜ paperFound a ≡ nodeAnswer lastChild (now (words .entry)) n (now (nodes .entry)) block v ⌝ }
     ensures { λ a. ⌜ WhereBuilt (now (words .entry)) n (now (nodes .entry)) block (paperFound a) (nodeDefined lastChild (now (words .entry)) n v) ⌝ }
 {
-    match search::admit_node(words, n, nodes, block, v) {
+    match handle::admit_node(words, n, nodes, block, v) {
         Gate::Shut(k) => Found::Refused(k),
         Gate::Open => last_of(words, n, nodes, block, v),
     }
@@ -33,7 +31,7 @@ fn last_of(words: &[u64], n: usize, nodes: &[i64], block: usize, v: usize) -> Fo
     requires { ⌜ v < n ⌝ }
     ensures { λ a. ⌜ paperFound a ≡ lastChild (now (words .entry)) n (walked (now (words .entry)) n block (now (nodes .entry))) v ⌝ }
 {
-    if !family::is_open(words, n, v + 1) {
+    if !handle::is_open(words, n, v + 1) {
         return Found::Nothing;
     }
     match walking::walk_fwd(words, n, nodes, block, v, -1) {
@@ -48,7 +46,7 @@ pub fn next_sibling(words: &[u64], n: usize, nodes: &[i64], block: usize, v: usi
     ensures { λ a. ⌜ paperFound a ≡ nodeAnswer nextSibling (now (words .entry)) n (now (nodes .entry)) block v ⌝ }
     ensures { λ a. ⌜ WhereBuilt (now (words .entry)) n (now (nodes .entry)) block (paperFound a) (nodeDefined nextSibling (now (words .entry)) n v) ⌝ }
 {
-    match search::admit_node(words, n, nodes, block, v) {
+    match handle::admit_node(words, n, nodes, block, v) {
         Gate::Shut(k) => Found::Refused(k),
         Gate::Open => next_of(words, n, nodes, block, v),
     }
@@ -60,7 +58,7 @@ fn next_of(words: &[u64], n: usize, nodes: &[i64], block: usize, v: usize) -> Fo
     ensures { λ a. ⌜ paperFound a ≡ nextSibling (now (words .entry)) n (walked (now (words .entry)) n block (now (nodes .entry))) v ⌝ }
 {
     match walking::walk_fwd(words, n, nodes, block, v, -1) {
-        Found::At(c) => family::handle_after(words, n, c),
+        Found::At(c) => handle::handle_after(words, n, c),
         Found::Nothing => Found::Nothing,
         Found::Refused(k) => Found::Refused(k),
     }
@@ -71,7 +69,7 @@ pub fn previous_sibling(words: &[u64], n: usize, nodes: &[i64], block: usize, v:
     ensures { λ a. ⌜ paperFound a ≡ nodeAnswer previousSibling (now (words .entry)) n (now (nodes .entry)) block v ⌝ }
     ensures { λ a. ⌜ WhereBuilt (now (words .entry)) n (now (nodes .entry)) block (paperFound a) (nodeDefined previousSibling (now (words .entry)) n v) ⌝ }
 {
-    match search::admit_node(words, n, nodes, block, v) {
+    match handle::admit_node(words, n, nodes, block, v) {
         Gate::Shut(k) => Found::Refused(k),
         Gate::Open => previous_of(words, n, nodes, block, v),
     }

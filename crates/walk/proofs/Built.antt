@@ -20,9 +20,9 @@ use Rattle.stretch.specs.Scan.{passed}
 use Rattle.stretch.proofs.Parts.{onward}
 use Rattle.stretch.proofs.Meets.{found}
 use Rattle.layout.specs.Layout.{count}
-use Rattle.mmt.specs.Nodes.{nodeAt, AsBuilt}
+use Rattle.node.specs.Nodes.{nodeAt, AsBuilt}
 use Rattle.layout.proofs.Places.{Place, place-up}
-use Rattle.mmt.proofs.Covered.{startOf, top, start-child, start-le, start-mono, absent, node-is}
+use Rattle.node.proofs.Covered.{startOf, top, start-child, start-le, start-mono, absent, node-is}
 use Rattle.walk.specs.Walk.{fits, last, sibling, climb, nearer, farther, descend, land, after}
 use Rattle.walk.proofs.Ways.{kin, near-place, far-place, side-place}
 use Rattle.walk.proofs.Steps.{climb-root, climb-up, climb-alone, climb-turn, climb-pass, descend-leaf, descend-near, descend-far}

@@ -23,10 +23,10 @@ use Rattle.stretch.specs.declared.bits.Scanned.the-variants.{Hit, Left}
 use Rattle.stretch.specs.Scan.{place, passed, scan}
 use Rattle.stretch.proofs.Meets.{scan-nearest}
 use Rattle.layout.specs.Layout.{inner, count}
-use Rattle.mmt.specs.Nodes.{nodeAt}
+use Rattle.node.specs.Nodes.{nodeAt}
 use Rattle.layout.proofs.Powers.{leaves-in}
 use Rattle.layout.proofs.Places.{Place, place-up}
-use Rattle.mmt.proofs.Covered.{startOf, top, start-child, start-le, start-mono}
+use Rattle.node.proofs.Covered.{startOf, top, start-child, start-le, start-mono}
 use Rattle.walk.specs.Walk.{fits, holdsOn, Climb, last, sibling, climb, Descent, nearer, farther, descend, far, ends, startBlock, startScan, Walk, inLeaf, land, after, inStart, walk}
 use Rattle.walk.proofs.Ways.{near-place, far-place, side-place, chosen}
 use Rattle.walk.proofs.Stretches.{over, bitsOf, block-place, block-start, block-end, leaf-bits}

@@ -30,11 +30,11 @@ use Rattle.stretch.proofs.Meets.{found, scan-nearest, scan-leaves}
 use Rattle.stretch.proofs.Covers.{skip-far}
 use Rattle.layout.specs.declared.Layout.{Layout}
 use Rattle.layout.specs.Layout.{leaves, inner, count}
-use Rattle.mmt.specs.Nodes.{nodeAt, AsBuilt}
+use Rattle.node.specs.Nodes.{nodeAt, AsBuilt}
 use Rattle.layout.proofs.Powers.{leaves-in, leaves-out, inner-top, inner-room}
 use Rattle.layout.proofs.Admitted.{layout-none}
 use Rattle.layout.proofs.Places.{count-is, place-of}
-use Rattle.mmt.proofs.Covered.{top}
+use Rattle.node.proofs.Covered.{top}
 use Rattle.walk.specs.Walk.{holdsOn, far, ends, startBlock, startScan, inStart, walk}
 use Rattle.walk.proofs.Told.{here, past}
 use Rattle.walk.proofs.Stretches.{over, over-none, over-split, restOf, block-place, block-start, block-end}

@@ -17,10 +17,10 @@ use Rattle.stretch.specs.declared.bits.Scanned.{Scanned}
 use Rattle.stretch.specs.declared.bits.Scanned.the-variants.{Hit, Left}
 use Rattle.stretch.specs.Scan.{passed, scan}
 use Rattle.layout.specs.Layout.{leaves, inner, count}
-use Rattle.mmt.specs.Nodes.{nodeAt}
+use Rattle.node.specs.Nodes.{nodeAt}
 use Rattle.layout.proofs.Powers.{levels-least, leaves-in}
 use Rattle.layout.proofs.Places.{Place, place-up}
-use Rattle.mmt.proofs.Covered.{top}
+use Rattle.node.proofs.Covered.{top}
 use Rattle.walk.specs.Walk.{fits, holdsOn, Climb, last, sibling, climb, Descent, nearer, farther, descend, far, ends, startBlock, startScan, Walk, inLeaf, land, after, inStart, walk}
 use Rattle.walk.proofs.Ways.{chosen, either}
 use Rattle.walk.proofs.Stretches.{block-place}

@@ -15,7 +15,7 @@ use lib.IntN.{ℤ}
 use Rattle.row.specs.Way.{Way}
 use Rattle.stretch.specs.declared.numbers.Numbers.{Numbers}
 use Rattle.stretch.specs.Scan.{passed}
-use Rattle.mmt.specs.Nodes.{nodeAt}
+use Rattle.node.specs.Nodes.{nodeAt}
 use Rattle.walk.specs.Walk.{fits, holdsOn, examine, Climb, turn, out, misfit, last, sibling, climb, Descent, leaf, lost, nearer, farther, descend}
 
 module _ (w : Way) (m : ℕ) (s : List ℤ) where

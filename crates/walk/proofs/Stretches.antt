@@ -23,7 +23,7 @@ use Rattle.stretch.proofs.Parts.{onward, scan-split}
 use Rattle.layout.specs.Layout.{leaves, innerFor, inner, count}
 use Rattle.layout.proofs.Powers.{inner-top, inner-room}
 use Rattle.layout.proofs.Places.{inner-is, count-is, blockAt, block-in, block-out, reach, reach-next, Place, place-ge, place-leaf, leaf-place}
-use Rattle.mmt.proofs.Covered.{startOf, top, start-child, start-le, start-mono, start-leaf}
+use Rattle.node.proofs.Covered.{startOf, top, start-child, start-le, start-mono, start-leaf}
 use Rattle.walk.specs.Walk.{last, sibling, nearer, farther}
 
 -- the scan of the bits a..t

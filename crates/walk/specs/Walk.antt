@@ -17,7 +17,7 @@ use Rattle.stretch.specs.declared.bits.Scanned.the-variants.{Hit, Left}
 use Rattle.stretch.specs.Numbers.{holdsFor, holdsBack}
 use Rattle.stretch.specs.Scan.{passed, scan}
 use Rattle.layout.specs.Layout.{inner, count}
-use Rattle.mmt.specs.Nodes.{nodeAt}
+use Rattle.node.specs.Nodes.{nodeAt}
 
 -- ---- a node examined
 

@@ -32,7 +32,7 @@ use Rattle.layout.specs.Layout.{leaves, layoutOf, inner, count}
 use Rattle.layout.proofs.Powers.{inner-top, leaves-out}
 use Rattle.layout.proofs.Admitted.{count-small}
 use Rattle.layout.proofs.Places.{inner-is, count-is, place-leaf}
-use Rattle.mmt.proofs.Covered.{top}
+use Rattle.node.proofs.Covered.{top}
 use Rattle.walk.specs.Walk.{Climb, turn, out, misfit, climb, Descent, leaf, lost, descend, ends, startBlock, startScan, inLeaf, land, beyond, inStart, walk}
 use Rattle.walk.proofs.Stretches.{block-place}
 use Rattle.examine.specs.Asked.{Room}

@@ -3,7 +3,7 @@ use mathlib.Core.Path.{_∙_}
 use native.Mathlib.Omega.{arith}
 use borrow.Author.Needs.{needs}
 use Rattle.stretch.specs.declared.numbers.Numbers.{Numbers}
-use Rattle.mmt.specs.Nodes.{nodeAt}
+use Rattle.node.specs.Nodes.{nodeAt}
 use Rattle.examine.specs.declared.ask.Examined.the-variants.{Fit}
 use Rattle.examine.proofs.Asked.{Looked, looked, fits-size, total-back}
 use Rattle.ends.proofs.Rightmost.{start-none, start-misfit, start-root}

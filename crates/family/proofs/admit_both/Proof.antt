@@ -6,7 +6,8 @@ use Rattle.row.specs.declared.gate.Gate.{Gate}
 use Rattle.row.specs.declared.gate.Gate.the-variants.{Open}
 use Rattle.row.specs.Gates.{handleGate, andThen}
 use Rattle.layout.specs.Layout.{nodesGate}
-use Rattle.search.proofs.Nodes.{passed-fine, then-then}
+use Rattle.handle.proofs.Gates.{then-then}
+use Rattle.calls.proofs.Nodes.{passed-fine}
 use Rattle.family.proofs.admit_both.Statement.{statement}
 use Rattle.family.proofs.admit_both.Tie as tie
 

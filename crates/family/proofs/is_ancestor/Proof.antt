@@ -6,8 +6,8 @@ use Rattle.row.specs.declared.gate.Gate.{Gate}
 use Rattle.row.specs.declared.gate.Gate.the-variants.{Open}
 use Rattle.row.specs.Gates.{andThen}
 use Rattle.layout.specs.Layout.{nodesGate}
+use Rattle.calls.proofs.Nodes.{passed-fine}
 use Rattle.family.specs.Family.{bothGate}
-use Rattle.search.proofs.Nodes.{passed-fine}
 use Rattle.family.proofs.Ancestor.{ancestor-shut, ancestor-open}
 use Rattle.family.proofs.is_ancestor.Statement.{statement}
 use Rattle.family.proofs.is_ancestor.Tie as tie

@@ -3,8 +3,9 @@ use mathlib.Core.Path.{_≡_, sym, _∙_}
 use borrow.Author.Needs.{needs}
 use Rattle.row.specs.declared.gate.Gate.{Gate}
 use Rattle.row.specs.declared.gate.Gate.the-variants.{Open}
+use Rattle.handle.proofs.Gates.{handle-opens}
+use Rattle.calls.proofs.Nodes.{passed-fine, passed-handle, nodeGate, node-shut, node-open}
 use Rattle.family.specs.Family.{parent}
-use Rattle.search.proofs.Nodes.{passed-fine, passed-handle, handle-opens, nodeGate, node-shut, node-open}
 use Rattle.family.proofs.Moves.{parent-is}
 use Rattle.family.proofs.parent.Statement.{statement}
 use Rattle.family.proofs.parent.Tie as tie

@@ -1,7 +1,8 @@
 -- `family::spans` meets its contract: a closes at c, at none, or the walk refuses. Assumes nothing.
 use mathlib.Core.Path.{_∙_}
 use borrow.Author.Needs.{needs}
-use Rattle.family.proofs.Moves.{said, ancestor-at, ancestor-nothing, ancestor-refused}
+use Rattle.calls.proofs.Nodes.{said}
+use Rattle.family.proofs.Moves.{ancestor-at, ancestor-nothing, ancestor-refused}
 use Rattle.family.proofs.spans.Statement.{statement}
 use Rattle.family.proofs.spans.Tie as tie
 

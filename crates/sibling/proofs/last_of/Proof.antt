@@ -11,7 +11,7 @@ use Rattle.row.specs.Tree.{opens}
 use Rattle.row.specs.Way.{forward}
 use Rattle.walk.specs.Walk.{walk}
 use Rattle.walk.proofs.Inside.{walk-after}
-use Rattle.family.proofs.Moves.{said}
+use Rattle.calls.proofs.Nodes.{said}
 use Rattle.sibling.proofs.Moves.{last-bare, last-at, last-nothing, last-refused}
 use Rattle.sibling.proofs.last_of.Statement.{statement}
 use Rattle.sibling.proofs.last_of.Tie as tie

@@ -8,7 +8,7 @@ use Rattle.row.specs.Answer.{at}
 use Rattle.row.specs.Way.{forward}
 use Rattle.walk.specs.Walk.{walk}
 use Rattle.walk.proofs.Inside.{walk-after}
-use Rattle.family.proofs.Moves.{said}
+use Rattle.calls.proofs.Nodes.{said}
 use Rattle.sibling.proofs.Moves.{next-at, next-nothing, next-refused}
 use Rattle.sibling.proofs.next_of.Statement.{statement}
 use Rattle.sibling.proofs.next_of.Tie as tie

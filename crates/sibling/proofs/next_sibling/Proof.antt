@@ -3,8 +3,8 @@ use mathlib.Core.Path.{_≡_, sym, _∙_}
 use borrow.Author.Needs.{needs}
 use Rattle.row.specs.declared.gate.Gate.{Gate}
 use Rattle.row.specs.declared.gate.Gate.the-variants.{Open}
+use Rattle.calls.proofs.Nodes.{passed-fine, nodeGate, node-shut, node-open}
 use Rattle.sibling.specs.Siblings.{nextSibling}
-use Rattle.search.proofs.Nodes.{passed-fine, nodeGate, node-shut, node-open}
 use Rattle.sibling.proofs.next_sibling.Statement.{statement}
 use Rattle.sibling.proofs.next_sibling.Tie as tie
 

@@ -2,7 +2,7 @@
 use mathlib.Core.Path.{sym, _∙_}
 use native.Mathlib.Omega.{arith}
 use borrow.Author.Needs.{needs}
-use Rattle.family.proofs.Moves.{closes-not, closes-in}
+use Rattle.handle.proofs.Moves.{closes-not, closes-in}
 use Rattle.sibling.proofs.Moves.{previous-first, previous-none, previous-at}
 use Rattle.sibling.proofs.previous_of.Statement.{statement}
 use Rattle.sibling.proofs.previous_of.Tie as tie

@@ -8,7 +8,7 @@ use mir.ValLaws.{toZ-ofZ}
 use Rattle.row.specs.Way.{forward}
 use Rattle.stretch.specs.declared.numbers.Numbers.{Numbers}
 use Rattle.stretch.specs.Numbers.{holdsFor}
-use Rattle.mmt.specs.Nodes.{nodeAt}
+use Rattle.node.specs.Nodes.{nodeAt}
 use Rattle.examine.specs.declared.ask.Examined.the-variants.{Fit}
 use Rattle.examine.proofs.Asked.{Looked, looked, total-back, passed-fits, asked-absent, asked-misfit, asked-here, asked-past}
 use Rattle.examine.proofs.ask.ask_fwd.Statement.{statement}

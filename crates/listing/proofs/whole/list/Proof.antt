@@ -3,7 +3,7 @@
 use mathlib.Core.Path.{_≡_, refl}
 use borrow.Author.Needs.{needs}
 use Rattle.row.specs.Answer.{Answer, paperFound}
-use Rattle.search.proofs.Nodes.{passed-fine}
+use Rattle.calls.proofs.Nodes.{passed-fine}
 use Rattle.listing.specs.Listing.{sought}
 use Rattle.listing.proofs.Sought.{Unrefused, sought-open, starts-shut, starts-open}
 use Rattle.listing.proofs.Written.{list-shut, list-open}

@@ -8,7 +8,7 @@ use lib.ListN.{length}
 use Rattle.layout.specs.Layout.{leaves}
 use Rattle.mmt.specs.Filling.{Filled}
 use Rattle.layout.proofs.Powers.{leaves-in}
-use Rattle.mmt.proofs.Nodes.{put-length}
+use Rattle.node.proofs.Nodes.{put-length}
 use Rattle.mmt.proofs.Filled.{filled-more}
 use Rattle.mmt.proofs.builder.fill_leaves.Statement.{statement}
 use Rattle.mmt.proofs.builder.fill_leaves.Tie as tie

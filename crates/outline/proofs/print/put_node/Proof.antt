@@ -3,16 +3,16 @@ use mathlib.Core.Path.{_≡_}
 use mathlib.Core.List.{[], _∷_, _++_}
 use lib.IntN.{negsuc}
 use lib.ListN.{length}
+use Rattle.calls.specs.Handles.{nodeAnswer}
+use Rattle.calls.specs.Searches.{fwdAnswer}
 use Rattle.family.specs.Family.{parent}
-use Rattle.search.specs.Handles.{nodeAnswer}
-use Rattle.search.specs.Searches.{fwdAnswer}
 use Rattle.page.specs.Page.{decimalOf}
 use Rattle.page.proofs.Pages.{adds-then}
 use Rattle.outline.specs.Shown.{answerText, nodeLine}
-use native.Mathlib.Omega.{arith}
-use borrow.Author.Needs.{needs}
 use Rattle.outline.proofs.print.put_node.Statement.{statement}
 use Rattle.outline.proofs.print.put_node.Tie as tie
+use native.Mathlib.Omega.{arith}
+use borrow.Author.Needs.{needs}
 
 put-cell-requires : tie.Need-put-cell-requires
 put-cell-requires c κs = search needs

@@ -7,7 +7,7 @@ use mir.Syntax.{w64}
 use mir.ValLaws.{toZ-ofZ}
 use Rattle.row.specs.Way.{backward}
 use Rattle.layout.specs.Layout.{inner, count}
-use Rattle.mmt.proofs.Covered.{top}
+use Rattle.node.proofs.Covered.{top}
 use Rattle.walk.specs.Walk.{climb, descend}
 use Rattle.examine.specs.Asked.{Room}
 use Rattle.examine.proofs.Asked.{room-fits}
