@@ -19,6 +19,16 @@ use Rattle.walking.proofs.Answers.{Laid, laid-out, start-room, turn-the
 use Rattle.walking.proofs.backward.beyond_bwd.Statement.{statement}
 use Rattle.walking.proofs.backward.beyond_bwd.Tie as tie
 
+-- ---- back from the leaf reached: where the climb turned, where it started, and the entry
+abbrev turned : tie.After-j → tie.After-k
+turned c = c .before .before .before .before
+
+abbrev started : tie.After-k → tie.After-struct-known
+started c = c .before .before .before
+
+abbrev entry : tie.After-k → tie.Start
+entry c = started c .before .before .before
+
 -- ---- the layout, and where the climb starts
 laid : (c : tie.After-struct-known) → (let a = c .before .before .before .args in Laid (a .n) (a .block) (a .b) (c .before .layout-of .result))
 laid c =
@@ -54,11 +64,11 @@ climbed c =
     let l = laid (c .before) in
     rw (toZ-ofZ w64 _ (c .before .before .before .before .fits .r), l .all, l .first) at (c .climb-bwd .ensures)
 
-there : (c : tie.After-k) → (let a = c .before .before .before .before .before .before .args in let k = c .k .given .0 in
+there : (c : tie.After-k) → (let a = entry c .args in let k = c .k .given .0 in
     Turned (count (a .n) (a .block)) (top (a .n) (a .block)) (Turn (k .0) (k .1 .0) (k .1 .1 .0)))
 there c =
     let n = c .before .before in
-    let s = n .before .before .before .before in
+    let s = entry c in
     let a = s .args in
     let f = s .pre .1 .0 in
     let k = c .k .given .0 in
@@ -67,33 +77,32 @@ there c =
 descend-bwd-requires : tie.Need-descend-bwd-requires
 descend-bwd-requires c κs =
     let e = c .before in
-    let m = e .before .before .before in
-    let l = laid m in
+    let l = laid (started e) in
     let t = there e in
     let i = t .0 in
     let o = t .2 in
     let k = e .k .given .0 in
-    let f = m .before .before .before .pre .1 .0 in
+    let f = entry e .pre .1 .0 in
     rw (toZ-ofZ w64 _ (room-fits (k .1 .0) (k .1 .1 .0) o)) (omega (arith, f .nodes))
 
 enum-known-j : tie.Need-enum-known-j
 enum-known-j c = search needs
 
 -- ---- what the descent answers, and what is known of the leaf reached
-descended : (c : tie.After-descend-bwd) → (let e = c .before .before in let a = e .before .before .before .before .before .before .args in let k = e .k .given .0 in
+descended : (c : tie.After-descend-bwd) → (let e = c .before .before in let a = entry e .args in let k = e .k .given .0 in
     c .descend-bwd .result ≡ descendedOf (descend backward (count (a .n) (a .block)) (a .nodes .now) (k .1 .0) (k .0) (k .1 .1 .0) 0))
 descended c =
     let e = c .before .before in
     let k = e .k .given .0 in
-    rw (toZ-ofZ w64 _ (room-fits (k .1 .0) (k .1 .1 .0) (there e .2)), laid (e .before .before .before) .all) at (c .descend-bwd .ensures)
+    rw (toZ-ofZ w64 _ (room-fits (k .1 .0) (k .1 .1 .0) (there e .2)), laid (started e) .all) at (c .descend-bwd .ensures)
 
-landing : (c : tie.After-j) → (let a = c .before .before .before .before .before .before .before .before .before .before .args in
+landing : (c : tie.After-j) → (let a = entry (turned c) .args in
     (inner (a .n) (a .block) ≤ c .j .given .0 .0) × (c .j .given .0 .0 < count (a .n) (a .block)) × Room 0 (c .j .given .0 .1 .0))
 landing c =
     let d = c .before .before in
-    let e = d .before .before in
+    let e = turned c in
     let n = e .before .before in
-    let s = n .before .before .before .before in
+    let s = entry e in
     let a = s .args in
     let f = s .pre .1 .0 in
     let k = e .k .given .0 in
@@ -102,14 +111,14 @@ landing c =
 
 leaf-bwd-requires : tie.Need-leaf-bwd-requires
 leaf-bwd-requires c κs =
-    let e = c .before in
-    let m = e .before .before .before .before .before .before .before in
-    let l = laid m in
-    let y = landing e in
+    let g = c .before in
+    let e = turned g in
+    let l = laid (started e) in
+    let y = landing g in
     let i = y .0 in
     let j = y .1 in
-    let p = m .before .before .before .pre in
-    rw (toZ-ofZ w64 _ (room-fits 0 (e .j .given .0 .1 .0) (y .2))) (p .0, (p .1 .0, ((l .first, omega arith, j), y .2)))
+    let p = entry e .pre in
+    rw (toZ-ofZ w64 _ (room-fits 0 (g .j .given .0 .1 .0) (y .2))) (p .0, (p .1 .0, ((l .first, omega arith, j), y .2)))
 
 enum-told : tie.Need-enum-told
 enum-told c = search needs
@@ -125,9 +134,9 @@ returns : tie.Need-returns
 returns c =
     let g = c .before .before in
     let d = g .before .before in
-    let e = d .before .before in
+    let e = turned g in
     let n = e .before .before in
-    let a = n .before .before .before .before .args in
+    let a = entry e .args in
     let k = e .k .given .0 in
     let j = g .j .given .0 in
     (rw (toZ-ofZ w64 _ (room-fits 0 (j .1 .0) (landing g .2))) at (c .leaf-bwd .ensures))
@@ -138,7 +147,7 @@ returns-2 c =
     let d = c .before .before in
     let e = d .before .before in
     let n = e .before .before in
-    let a = n .before .before .before .before .args in
+    let a = entry e .args in
     let k = e .k .given .0 in
     beyond-lost backward (a .words .now) (a .n) (a .block) (a .nodes .now) (a .b) (a .r) (k .0) (k .1 .0) (k .1 .1 .0) (sym (climbed n) ∙ e .k .given .1) (sym (descended d) ∙ c .enum-told .given .1)
 

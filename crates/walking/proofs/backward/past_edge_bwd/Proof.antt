@@ -17,6 +17,13 @@ use Rattle.walking.proofs.Answers.{start-hit, start-left}
 use Rattle.walking.proofs.backward.past_edge_bwd.Statement.{statement}
 use Rattle.walking.proofs.backward.past_edge_bwd.Tie as tie
 
+-- back from the answer of the scan: where the table is made, and the entry
+abbrev made : tie.After-bwd-search-block → tie.After-t
+made c = c .before
+
+abbrev entry : tie.After-t → tie.Start
+entry c = c .before .before .before
+
 table-requires : tie.Need-table-requires
 table-requires c κs = search needs
 
@@ -25,7 +32,7 @@ mul-bwd-search-block c = search needs
 
 bwd-search-block-requires : tie.Need-bwd-search-block-requires
 bwd-search-block-requires c κs =
-    let s = c .before .before .before in
+    let s = entry c in
     let f = s .pre .0 in (
       c .before .table .ensures,
       (
@@ -41,15 +48,15 @@ enum-known-q : tie.Need-enum-known-q
 enum-known-q c = search needs
 
 -- what the scan read
-read : (c : tie.After-bwd-search-block) → (let a = c .before .before .before .before .args in
+read : (c : tie.After-bwd-search-block) → (let a = entry (made c) .args in
     c .bwd-search-block .result ≡ scan backward (bitAt (a .words .now)) (a .edge - a .b * a .block) (a .b * a .block) (a .r))
-read c = rw (toZ-ofZ w64 _ (c .before .before .before .before .fits .r)) at (c .bwd-search-block .ensures)
+read c = rw (toZ-ofZ w64 _ (entry (made c) .fits .r)) at (c .bwd-search-block .ensures)
 
 -- what it leaves
 left : (c : tie.After-q) → size (c .q .given .0 .0) ≤ 4295032832
 left c =
     let n = c .before .before in
-    let s = n .before .before .before .before in
+    let s = entry (made n) in
     let a = s .args in
     let z = scan-size backward (bitAt (a .words .now)) (a .edge - a .b * a .block) (a .b * a .block) (a .r) (c .q .given .0 .0)
     (sym (read n) ∙ c .q .given .1) in
@@ -61,21 +68,21 @@ fits c = omega (zsum, left c)
 beyond-bwd-requires : tie.Need-beyond-bwd-requires
 beyond-bwd-requires c κs =
     let g = c .before .before in
-    let t = g .before .before .before in
-    let s = t .before .before .before in
+    let t = made (g .before .before) in
+    let s = entry t in
     rw (toZ-ofZ w64 _ (fits g)) (t .before .table .ensures, (s .pre .0, (s .pre .1 .0, left g)))
 
 returns : tie.Need-returns
 returns c =
     let n = c .before .before .before in
-    let a = n .before .before .before .before .args in
+    let a = entry (made n) .args in
     start-hit backward (a .words .now) (a .n) (a .block) (a .nodes .now) (a .b) (c .before .j .given .0 .0) (sym (read n) ∙ c .before .j .given .1)
 
 returns-2 : tie.Need-returns-2
 returns-2 c =
     let g = c .before .before .before in
     let n = g .before .before in
-    let a = n .before .before .before .before .args in
+    let a = entry (made n) .args in
     (rw (toZ-ofZ w64 _ (fits g)) at (c .beyond-bwd .ensures))
     ∙ start-left backward (a .words .now) (a .n) (a .block) (a .nodes .now) (a .b) (g .q .given .0 .0) (sym (read n) ∙ g .q .given .1)
 

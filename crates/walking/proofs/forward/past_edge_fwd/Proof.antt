@@ -18,12 +18,19 @@ use Rattle.walking.proofs.Answers.{start-hit, start-left}
 use Rattle.walking.proofs.forward.past_edge_fwd.Statement.{statement}
 use Rattle.walking.proofs.forward.past_edge_fwd.Tie as tie
 
+-- back from the answer of the scan: where the table is made, and the entry
+abbrev made : tie.After-fwd-search-block → tie.After-t
+made c = c .before .before
+
+abbrev entry : tie.After-t → tie.Start
+entry c = c .before .before .before
+
 table-requires : tie.Need-table-requires
 table-requires c κs = search needs
 
 add-earlier : tie.Need-add-earlier
 add-earlier c =
-    let s = c .before .before .before in
+    let s = entry c in
     omega (arith, few-blocks (s .args .b) (s .args .block) (omega (arith, s .pre .0 .eight)), s .pre .0 .short)
 
 mul-earlier : tie.Need-mul-earlier
@@ -34,7 +41,7 @@ earlier-requires c κs = search needs
 
 fwd-search-block-requires : tie.Need-fwd-search-block-requires
 fwd-search-block-requires c κs =
-    let s = c .before .before .before .before in
+    let s = entry (c .before) in
     let f = s .pre .0 in
     let o = c .earlier .ensures in (
       c .before .before .table .ensures,
@@ -51,15 +58,15 @@ enum-known-q : tie.Need-enum-known-q
 enum-known-q c = search needs
 
 -- what the scan read
-read : (c : tie.After-fwd-search-block) → (let a = c .before .before .before .before .before .args in
+read : (c : tie.After-fwd-search-block) → (let a = entry (made c) .args in
     c .fwd-search-block .result ≡ scan forward (bitAt (a .words .now)) (min (a .n) ((a .b + 1) * a .block) - a .edge) (a .edge) (a .r))
-read c = rw (toZ-ofZ w64 _ (c .before .before .before .before .before .fits .r), c .before .earlier .ensures) at (c .fwd-search-block .ensures)
+read c = rw (toZ-ofZ w64 _ (entry (made c) .fits .r), c .before .earlier .ensures) at (c .fwd-search-block .ensures)
 
 -- what it leaves
 left : (c : tie.After-q) → size (c .q .given .0 .0) ≤ 4295032832
 left c =
     let n = c .before .before in
-    let s = n .before .before .before .before .before in
+    let s = entry (made n) in
     let a = s .args in
     let z = scan-size forward (bitAt (a .words .now)) (min (a .n) ((a .b + 1) * a .block) - a .edge) (a .edge) (a .r) (c .q .given .0 .0)
     (sym (read n) ∙ c .q .given .1) in
@@ -71,21 +78,21 @@ fits c = omega (zsum, left c)
 beyond-fwd-requires : tie.Need-beyond-fwd-requires
 beyond-fwd-requires c κs =
     let g = c .before .before in
-    let t = g .before .before .before .before in
-    let s = t .before .before .before in
+    let t = made (g .before .before) in
+    let s = entry t in
     rw (toZ-ofZ w64 _ (fits g)) (t .before .table .ensures, (s .pre .0, (s .pre .1 .0, left g)))
 
 returns : tie.Need-returns
 returns c =
     let n = c .before .before .before in
-    let a = n .before .before .before .before .before .args in
+    let a = entry (made n) .args in
     start-hit forward (a .words .now) (a .n) (a .block) (a .nodes .now) (a .b) (c .before .j .given .0 .0) (sym (read n) ∙ c .before .j .given .1)
 
 returns-2 : tie.Need-returns-2
 returns-2 c =
     let g = c .before .before .before in
     let n = g .before .before in
-    let a = n .before .before .before .before .before .args in
+    let a = entry (made n) .args in
     (rw (toZ-ofZ w64 _ (fits g)) at (c .beyond-fwd .ensures))
     ∙ start-left forward (a .words .now) (a .n) (a .block) (a .nodes .now) (a .b) (g .q .given .0 .0) (sym (read n) ∙ g .q .given .1)
 

@@ -21,13 +21,23 @@ use Rattle.walking.proofs.Answers.{less-fits, far-over, far-under, far-
 use Rattle.walking.proofs.forward.walk_fwd.Statement.{statement}
 use Rattle.walking.proofs.forward.walk_fwd.Tie as tie
 
--- the walk does not end at once, and r is not further than all bits go
-ended : (c : tie.Else2) → ends forward (c .before .before .before .args .n) (c .before .before .before .args .i) ≡ false
-ended c = let a = c .before .before .before .args in lt-leb (a .n) (a .i + 1) (c .if2 .left)
+-- back from the answer of the edge's scan: where the tests of r are passed, where the walk's ends are, and the entry
+abbrev tested : tie.After-edge-fwd → tie.Else4
+tested c = c .before .before
 
-near : (c : tie.Else4) → size (c .before .before .before .before .before .args .r) ≤ c .before .before .before .before .before .args .n
+abbrev within : tie.Else4 → tie.Else2
+within c = c .before .before
+
+abbrev entry : tie.Else2 → tie.Start
+entry c = c .before .before .before
+
+-- the walk does not end at once, and r is not further than all bits go
+ended : (c : tie.Else2) → ends forward (entry c .args .n) (entry c .args .i) ≡ false
+ended c = let a = entry c .args in lt-leb (a .n) (a .i + 1) (c .if2 .left)
+
+near : (c : tie.Else4) → (let a = entry (within c) .args in size (a .r) ≤ a .n)
 near c =
-    let s = c .before .before .before .before .before in
+    let s = entry (within c) in
     far-neither (s .args .n) (s .pre .short) (s .args .r) (s .fits .r) (c .before .if3 .left) (c .if4 .left)
 
 returns : tie.Need-returns
@@ -48,17 +58,17 @@ cast-most c = search needs
 
 returns-3 : tie.Need-returns-3
 returns-3 c =
-    let s = c .before .before .before .before in
+    let s = entry (c .before) in
     let a = s .args in
     walk-far forward (a .words .now) (a .n) (a .block) (a .nodes .now) (a .i) (a .r) (ended (c .before))
     (far-over (a .n) (s .pre .short) (a .r) (s .fits .r) (c .if3 .taken))
 
 sub-if4 : tie.Need-sub-if4
-sub-if4 c = let s = c .before .before .before .before in less-fits (s .args .n) (s .pre .short)
+sub-if4 c = let s = entry (c .before) in less-fits (s .args .n) (s .pre .short)
 
 returns-4 : tie.Need-returns-4
 returns-4 c =
-    let s = c .before .before .before .before .before in
+    let s = entry (c .before .before) in
     let a = s .args in
     walk-far forward (a .words .now) (a .n) (a .block) (a .nodes .now) (a .i) (a .r) (ended (c .before .before))
     (far-under (a .n) (s .pre .short) (a .r) (s .fits .r) (c .if4 .taken))
@@ -74,7 +84,7 @@ earlier-requires c κs = search needs
 
 edge-fwd-requires : tie.Need-edge-fwd-requires
 edge-fwd-requires c κs =
-    let s = c .before .before .before .before .before .before in
+    let s = entry (within (c .before)) in
     let f = s .pre in
     let o = c .earlier .ensures in
     let z = near (c .before) in (
@@ -89,22 +99,20 @@ enum-known-q : tie.Need-enum-known-q
 enum-known-q c = search needs
 
 -- the bits before the edge
-first : (c : tie.After-edge-fwd) → (let a = c .before .before .before .before .before .before .before .args in
+first : (c : tie.After-edge-fwd) → (let a = entry (within (tested c)) .args in
     c .edge-fwd .result ≡ scan forward (bitAt (a .words .now)) (min (a .n) ((a .i + 1 + 7) / 8 * 8) - (a .i + 1)) (a .i + 1) (a .r))
-first c =
-    let e = c .before in
-    rw (toZ-ofZ w64 _ (e .before .before .before .before .before .before .fits .r), e .earlier .ensures) at (c .edge-fwd .ensures)
+first c = rw (toZ-ofZ w64 _ (entry (within (tested c)) .fits .r), c .before .earlier .ensures) at (c .edge-fwd .ensures)
 
 -- what is left to do after them
-after-edge : (c : tie.After-known-told2) → (let a = c .before .before .before .before .before .before .before .before .before .before .args in
+after-edge : (c : tie.After-known-told2) → (let a = entry (within (tested (c .before .before .before))) .args in
     let from = a .i + 1 in let edge = min (a .n) ((from + 7) / 8 * 8) in let to = min (a .n) ((from / a .block + 1) * a .block) in
     Reading forward (bitAt (a .words .now)) (to - from) from (a .r) (to - edge) edge (toZ w64 (ofZ w64 (c .before .q .given .0 .0))))
 after-edge c =
     let n = c .before .before .before in
-    let e = n .before .before in
-    let s = e .before .before .before .before .before in
+    let e = tested n in
+    let s = entry (within e) in
     let f = s .pre in
-    part-on (reading-start _ _ _ _ _) (head-fwd (s .args .n) (s .args .block) (f .eight) (f .eights) (s .args .i) (e .before .before .if2 .left))
+    part-on (reading-start _ _ _ _ _) (head-fwd (s .args .n) (s .args .block) (f .eight) (f .eights) (s .args .i) (within e .if2 .left))
     (first n) (c .before .q .given .1) (record { sfits = c .known-told2 .given .0 .1 })
 
 div-past-edge-fwd : tie.Need-div-past-edge-fwd
@@ -112,19 +120,19 @@ div-past-edge-fwd c = search needs
 
 past-edge-fwd-requires : tie.Need-past-edge-fwd-requires
 past-edge-fwd-requires c κs =
-    let o = c .before .before .before .before in
-    let e = o .before in
-    let s = e .before .before .before .before .before in
+    let n = c .before .before .before in
+    let e = tested n in
+    let s = entry (within e) in
     let a = s .args in
     let f = s .pre in
     let p : 0 < a .block = omega (arith, f .eight) in
     let k = after-edge c .near in
     let z = near e in
     let h = low (a .n) (a .block) p (a .i + 1) in
-    let m = o .earlier .ensures in (
+    let o = n .before .earlier .ensures in (
       f,
       (
-        leaves-in (a .n) (a .block) p ((a .i + 1) / a .block) (start-in (a .n) (a .block) p forward (a .i) (e .before .before .if2 .left)),
+        leaves-in (a .n) (a .block) p ((a .i + 1) / a .block) (start-in (a .n) (a .block) p forward (a .i) (within e .if2 .left)),
         omega (arith, edge-fwd-in (a .n) (a .block) (f .eight) (f .eights) (a .i)),
         omega (arith, f .small, f .short),
       ),
@@ -133,21 +141,21 @@ past-edge-fwd-requires c κs =
 returns-5 : tie.Need-returns-5
 returns-5 c =
     let n = c .before .before .before in
-    let e = n .before .before in
-    let s = e .before .before .before .before .before in
+    let e = tested n in
+    let s = entry (within e) in
     let a = s .args in
     let f = s .pre in
-    walk-starts forward (a .words .now) (a .n) (a .block) (a .nodes .now) (a .i) (a .r) (ended (e .before .before)) (near e)
-    (part-hit (reading-start _ _ _ _ _) (head-fwd (a .n) (a .block) (f .eight) (f .eights) (a .i) (e .before .before .if2 .left)) (first n)
+    walk-starts forward (a .words .now) (a .n) (a .block) (a .nodes .now) (a .i) (a .r) (ended (within e)) (near e)
+    (part-hit (reading-start _ _ _ _ _) (head-fwd (a .n) (a .block) (f .eight) (f .eights) (a .i) (within e .if2 .left)) (first n)
     (c .before .j .given .1))
 
 returns-6 : tie.Need-returns-6
 returns-6 c =
-    let o = c .before .before .before .before .before in
-    let e = o .before in
-    let a = e .before .before .before .before .before .args in
-    (rw (o .earlier .ensures) at (c .past-edge-fwd .ensures))
-    ∙ walk-starts forward (a .words .now) (a .n) (a .block) (a .nodes .now) (a .i) (a .r) (ended (e .before .before)) (near e)
+    let n = c .before .before .before .before in
+    let e = tested n in
+    let a = entry (within e) .args in
+    (rw (n .before .earlier .ensures) at (c .past-edge-fwd .ensures))
+    ∙ walk-starts forward (a .words .now) (a .n) (a .block) (a .nodes .now) (a .i) (a .r) (ended (within e)) (near e)
     (after-edge (c .before) .same)
 
 pub walk-fwd-spec : {M : Type 1} → statement M
