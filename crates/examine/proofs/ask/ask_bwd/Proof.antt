@@ -14,29 +14,35 @@ use Rattle.examine.proofs.Asked.{Looked, looked, total-back, passed-fit
 use Rattle.examine.proofs.ask.ask_bwd.Statement.{statement}
 use Rattle.examine.proofs.ask.ask_bwd.Tie as tie
 
+-- back from the answer whether the node holds what is sought: where its numbers are seen, and the entry
+abbrev seen : tie.After-holds-back → tie.After-x
+seen c = c .before .before .before .before
+
+abbrev entry : tie.After-x → tie.Start
+entry c = c .before .before .before .before
+
 -- the node that is there
 abbrev node : tie.After-x → Numbers
-node c = let s = c .before .before .before .before .args in nodeAt (s .nodes .now) (s .k)
+node c = let s = entry c .args in nodeAt (s .nodes .now) (s .k)
 
 look : (c : tie.After-x) → Looked (node c) (Fit (c .x .given .0 .0))
 look c = looked (node c) (c .before .before .examine .ensures) (c .x .given .1)
 
 -- what is left past it, and what it holds
-more : (c : tie.After-x) → (let s = c .before .before .before .before in
+more : (c : tie.After-x) → (let s = entry c in
     toZ w64 (ofZ w64 (s .args .r)) +ℤ toZ w64 (ofZ w64 (c .x .given .0 .0 .total)) ≡ s .args .r +ℤ node c .total)
-more c = rw (toZ-ofZ w64 _ (c .before .before .before .before .fits .r), total-back (node c) (look c))
+more c = rw (toZ-ofZ w64 _ (entry c .fits .r), total-back (node c) (look c))
 
 add-s : tie.Need-add-s
 add-s c =
     let n = c .before .before .before in
-    let s = n .before .before .before .before in
+    let s = entry n in
     rw (more n) (passed-fits backward (s .args .r) (node n) (look n .0) (s .pre .1))
 
-held : (c : tie.After-holds-back) → (let n = c .before .before .before .before in
-    c .holds-back .result ≡ holdsBack (node n) (n .before .before .before .before .args .r +ℤ node n .total))
+held : (c : tie.After-holds-back) → (let n = seen c in c .holds-back .result ≡ holdsBack (node n) (entry n .args .r +ℤ node n .total))
 held c =
-    let n = c .before .before .before .before in
-    let s = n .before .before .before .before in
+    let n = seen c in
+    let s = entry n in
     (rw (toZ-ofZ w64 _ (add-s (c .before)), more n) at (c .holds-back .ensures)) ∙ ap (λ (y : Numbers). holdsBack y (s .args .r +ℤ node n .total)) (sym (look n .1))
 
 returns : tie.Need-returns
@@ -56,16 +62,16 @@ enum-told c = search needs
 
 returns-2 : tie.Need-returns-2
 returns-2 c =
-    let n = c .before .before .before .before .before in
+    let n = seen (c .before) in
     let e = n .before .before .before in
-    let s = e .before .args in
+    let s = entry n .args in
     asked-here backward (s .all) (s .nodes .now) (s .k) (s .r) (e .if1 .left) (look n .0) (sym (held (c .before)) ∙ c .if2 .taken)
 
 returns-3 : tie.Need-returns-3
 returns-3 c =
-    let n = c .before .before .before .before .before in
+    let n = seen (c .before) in
     let e = n .before .before .before in
-    let s = e .before .args in
+    let s = entry n .args in
     rw (toZ-ofZ w64 _ (add-s (c .before .before)), more n)
     (asked-past backward (s .all) (s .nodes .now) (s .k) (s .r) (e .if1 .left) (look n .0) (sym (held (c .before)) ∙ c .if2 .left))
 
