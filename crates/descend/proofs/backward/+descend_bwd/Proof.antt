@@ -39,13 +39,22 @@ descend-bwd-below t =
 abbrev calls : ℕ → descend-bwd-lts.Claims
 calls t = (down-two-bwd-reads.Asked, down-two-bwd-reads.Learnt, descend-bwd-below t, descend-bwd.Post)
 
+-- ---- back from the answer of the next two levels: the node that the first two lead to, and the entry
+abbrev halfway : {t : ℕ} → descend-bwd-lts.After-down-two-bwd2 (calls t) (descend-bwd-at t) descend-bwd.Post
+    → descend-bwd-lts.After-j (calls t) (descend-bwd-at t) descend-bwd.Post
+halfway n = n .before .before .before
+
+abbrev entry : {t : ℕ} → descend-bwd-lts.After-j (calls t) (descend-bwd-at t) descend-bwd.Post
+    → descend-bwd-lts.Start (calls t) (descend-bwd-at t) descend-bwd.Post
+entry c = c .before .before .before
+
 -- ---- the first two levels, the node that they lead to, and the levels left
 two : (t : ℕ) (n : descend-bwd-lts.After-down-two-bwd (calls t) (descend-bwd-at t) descend-bwd.Post) {b : Descended} → n .down-two-bwd .result ≡ b
     → (let a = n .before .args in descendedOf (descend backward (a .all) (a .nodes .now) (min (a .h) 2) (a .k) (a .r) 0) ≡ b)
 two t n e = sym (rw (toZ-ofZ w64 _ (n .before .fits .r)) at (n .down-two-bwd .ensures)) ∙ e
 
 there : (t : ℕ) (c : descend-bwd-lts.After-j (calls t) (descend-bwd-at t) descend-bwd.Post)
-    → (let a = c .before .before .before .args in Fallen (a .all) (a .h - 2) (Leaf (c .j .given .0 .0) (c .j .given .0 .1 .0)))
+    → (let a = entry c .args in Fallen (a .all) (a .h - 2) (Leaf (c .j .given .0 .0) (c .j .given .0 .1 .0)))
 there t c =
     let n = c .before .before in
     let a = n .before .args in
@@ -55,7 +64,7 @@ there t c =
 left-back : (t : ℕ) (c : descend-bwd-lts.After-j (calls t) (descend-bwd-at t) descend-bwd.Post)
     → toZ w64 (ofZ w64 (c .j .given .0 .1 .0)) ≡ c .j .given .0 .1 .0
 left-back t c =
-    let a = c .before .before .before .args in
+    let a = entry c .args in
     toZ-ofZ w64 _ (room-fits (a .h - 2) (c .j .given .0 .1 .0) (there t c .1))
 
 then : (t : ℕ) (n : descend-bwd-lts.After-down-two-bwd (calls t) (descend-bwd-at t) descend-bwd.Post) {b : Descended} → n .down-two-bwd .result ≡ b
@@ -68,17 +77,17 @@ then t n e =
 -- ---- and the next two
 two-2 : (t : ℕ) (n : descend-bwd-lts.After-down-two-bwd2 (calls t) (descend-bwd-at t) descend-bwd.Post) {b : Descended}
     → n .down-two-bwd2 .result ≡ b
-    → (let e = n .before .before .before in let a = e .before .before .before .args in
+    → (let e = halfway n in let a = entry e .args in
     descendedOf (descend backward (a .all) (a .nodes .now) (min (a .h - 2) 2) (e .j .given .0 .0) (e .j .given .0 .1 .0) 0) ≡ b)
-two-2 t n g = sym (rw (left-back t (n .before .before .before)) at (n .down-two-bwd2 .ensures)) ∙ g
+two-2 t n g = sym (rw (left-back t (halfway n)) at (n .down-two-bwd2 .ensures)) ∙ g
 
 there-2 : (t : ℕ) (c : descend-bwd-lts.After-i (calls t) (descend-bwd-at t) descend-bwd.Post)
-    → (let a = c .before .before .before .before .before .before .before .before .args in
+    → (let a = entry (halfway (c .before .before)) .args in
     Fallen (a .all) (a .h - 4) (Leaf (c .i .given .0 .0) (c .i .given .0 .1 .0)))
 there-2 t c =
     let n = c .before .before in
-    let e = n .before .before .before in
-    let a = e .before .before .before .args in
+    let e = halfway n in
+    let a = entry e .args in
     let j = e .j .given .0 in
     let y = there t e in
     fallen backward (a .all) (a .nodes .now) (min (a .h - 2) 2) (a .h - 4) (a .h - 2) (j .0) (j .1 .0) (omega arith) (two-2 t n (c .i .given .1))
@@ -87,16 +96,16 @@ there-2 t c =
 left-back-2 : (t : ℕ) (c : descend-bwd-lts.After-i (calls t) (descend-bwd-at t) descend-bwd.Post)
     → toZ w64 (ofZ w64 (c .i .given .0 .1 .0)) ≡ c .i .given .0 .1 .0
 left-back-2 t c =
-    let a = c .before .before .before .before .before .before .before .before .args in
+    let a = entry (halfway (c .before .before)) .args in
     toZ-ofZ w64 _ (room-fits (a .h - 4) (c .i .given .0 .1 .0) (there-2 t c .1))
 
 then-2 : (t : ℕ) (n : descend-bwd-lts.After-down-two-bwd2 (calls t) (descend-bwd-at t) descend-bwd.Post) {b : Descended}
     → n .down-two-bwd2 .result ≡ b
-    → (let a = n .before .before .before .before .before .before .args in
+    → (let a = entry (halfway n) .args in
     onDown backward (a .all) (a .nodes .now) (a .h - 4) b ≡ descendedOf (descend backward (a .all) (a .nodes .now) (a .h) (a .k) (a .r) 0))
 then-2 t n g =
-    let e = n .before .before .before in
-    let a = e .before .before .before .args in
+    let e = halfway n in
+    let a = entry e .args in
     let j = e .j .given .0 in
     descended-then backward (a .all) (a .nodes .now) (min (a .h - 2) 2) (a .h - 4) (a .h - 2) (j .0) (j .1 .0) (omega arith) (two-2 t n g)
     ∙ then t (e .before .before) (e .j .given .1)
@@ -145,7 +154,7 @@ descend-bwd-returns-4 : (t : ℕ) → descend-bwd-lts.Need-returns-4 (calls t) (
 descend-bwd-returns-4 t c =
     let g = c .before .before in
     let n = g .before .before in
-    let a = n .before .before .before .before .before .before .args in
+    let a = entry (halfway n) .args in
     let i = g .i .given .0 in
     rw (left-back-2 t g) (descended-leaf backward (a .all) (a .nodes .now) (a .h - 4) (i .0) (i .1 .0) (omega arith) ∙ then-2 t n (g .i .given .1))
 
