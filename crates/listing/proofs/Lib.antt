@@ -1,5 +1,6 @@
 pub mod Rules
 pub mod Held
+pub mod Making
 pub mod Sought
 pub mod Below
 pub mod Written

@@ -30,8 +30,9 @@ enum-told c = search needs
 
 write-steps-requires : tie.Need-write-steps-requires
 write-steps-requires c κs =
+    let s = c .before .before .before in
     let p = passed (c .before) in
-    let a = c .before .before .before .before .before .args in
+    let a = s .before .before .args in
     let g = sought-open (a .words .now) (a .n) (a .nodes .now) (a .block) (a .v) (a .rising) (p .0) in
     (passed-fine _ _ _ _ _ g .short, rw (p .1) (sought-below (a .rising) (a .words .now) (a .n) (a .nodes .now) (a .block) (a .v)))
 
@@ -46,8 +47,9 @@ same-length c = search needs
 
 returns-2 : tie.Need-returns-2
 returns-2 c =
-    let p = passed (c .before .before .before) in
-    list-open _ _ _ _ _ _ _ (asked (c .before .before .before .before .before)) _ _ refl (p .0) (rw (p .1) at (c .before .write-steps .ensures))
+    let w = c .before .before .before in
+    let p = passed w in
+    list-open _ _ _ _ _ _ _ (asked (w .before .before)) _ _ refl (p .0) (rw (p .1) at (c .before .write-steps .ensures))
 
 pub list-spec : {M : Type 1} → statement M
 list-spec =

@@ -62,7 +62,10 @@ after-requires : tie.Need-after-requires Inv-loop μ-loop
 after-requires c κs = search needs
 
 loop-less : tie.Need-loop-less Inv-loop μ-loop
-loop-less c = let r = c .before .before .before .before .before .loop .inv .1 .same in omega arith
+loop-less c =
+    let n = c .before .before .before in
+    let r = n .before .before .loop .inv .1 .same in
+    omega arith
 
 loop-again : tie.Need-loop-again Inv-loop μ-loop
 loop-again c =
