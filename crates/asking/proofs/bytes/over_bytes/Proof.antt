@@ -11,6 +11,13 @@ use borrow.Author.Needs.{needs}
 use Rattle.asking.proofs.bytes.over_bytes.Statement.{statement}
 use Rattle.asking.proofs.bytes.over_bytes.Tie as tie
 
+-- from the decoded numbers back to the decoded words, and from those to the entry
+abbrev words : tie.After-take-numbers → tie.After-take-words
+words c = c .before .before .before
+
+abbrev entry : tie.After-take-words → tie.Start
+entry c = c .before .before .before .before
+
 slice-aggregate-take-words : tie.Need-slice-aggregate-take-words
 slice-aggregate-take-words c = search needs
 
@@ -28,9 +35,8 @@ array-share-prefix-words c = search needs
 
 slice-aggregate-ask : tie.Need-slice-aggregate-ask
 slice-aggregate-ask c =
-    let t = c .before .before .before .before .before in
-    let s = t .before .before .before .before .args .row .now in
-    lent (λ j. wordAt s (8 * j)) _ _ (t .take-words .ensures .1)
+    let w = words (c .before .before) in
+    lent (λ j. wordAt (entry w .args .row .now) (8 * j)) _ _ (w .take-words .ensures .1)
 
 bits-requires : tie.Need-bits-requires
 bits-requires c κs = search needs
@@ -41,21 +47,17 @@ array-share-prefix-numbers c = search needs
 slice-aggregate-ask-2 : tie.Need-slice-aggregate-ask-2
 slice-aggregate-ask-2 c =
     let t = c .before .before .before .before in
-    let w = t .before .before .before in
-    let s = w .before .before .before .before .args .nodes .now in
-    lent (λ j. numberAt s (8 * j)) _ _ (t .take-numbers .ensures .1)
+    lent (λ j. numberAt (entry (words t) .args .nodes .now) (8 * j)) _ _ (t .take-numbers .ensures .1)
 
 ask-requires : tie.Need-ask-requires
 ask-requires c κs = search needs
 
 returns : tie.Need-returns
 returns c =
-    -- where the bit count, the numbers and the words are answered, from the last to the first
     let b = c .before .before in
     let t = b .before .before .before in
-    let u = t .before .before .before in
-    let a = u .before .before .before .before .args in
-    let w = u .take-words .ensures in
+    let a = entry (words t) .args in
+    let w = words t .take-words .ensures in
     let m = t .take-numbers .ensures in
     toZ-ofZ w64 _ (record { sfits = c .ask .ok }) ∙ c .ask .ensures
     ∙ same (λ ws n s. wireOf (asked ws n s (a .block) (a .q)))

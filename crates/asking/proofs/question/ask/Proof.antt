@@ -82,7 +82,8 @@ first-child-requires c κs = search needs
 
 found-requires-8 : tie.Need-found-requires-8
 found-requires-8 c κs =
-    small-as (c .first-child .ensures) (answer-small (c .before .before .before .before .before .args .words .now) _ [] 0 (firstChild _))
+    let q = c .before .before in
+    small-as (c .first-child .ensures) (answer-small (q .before .before .before .args .words .now) _ [] 0 (firstChild _))
 
 enum-known-q-8 : tie.Need-enum-known-q-8
 enum-known-q-8 c = search needs

@@ -16,6 +16,10 @@ use borrow.Author.Needs.{needs}
 use Rattle.asking.proofs.reader.read_text.Statement.{statement}
 use Rattle.asking.proofs.reader.read_text.Tie as tie
 
+-- from where it is known how many words fit back to the entry
+abbrev entry : tie.After-fitting → tie.Start
+entry c = c .before .before .before .before
+
 refused-requires : tie.Need-refused-requires
 refused-requires c κs = search needs
 
@@ -40,9 +44,10 @@ slice-aggregate-read-through c =
 
 read-through-requires : tie.Need-read-through-requires
 read-through-requires c κs =
-    let m = c .before .before .fitting in
+    let f = c .before .before in
+    let m = f .fitting in
     let h : m .result ≤ 64 = omega (arith, m .ensures) in
-    let e : 8 * m .result ≤ length (c .before .before .before .before .before .before .args .row .now) = omega (arith, m .ensures) in
+    let e : 8 * m .result ≤ length (entry f .args .row .now) = omega (arith, m .ensures) in
     rw (length-take-le _ _ h) e
 
 same-length : tie.Need-same-length
@@ -50,12 +55,13 @@ same-length c = search needs
 
 returns-2 : tie.Need-returns-2
 returns-2 c =
-    let r = c .before .before .before .read-through in
-    let m = c .before .before .before .before .before .before .fitting in
+    let t = c .before .before .before in
+    let f = t .before .before .before in
+    let a = entry f .args in
+    let r = t .read-through in
+    let m = f .fitting in
     let h : m .result ≤ 64 = omega (arith, m .ensures) in
-    let b = c .before .before .before .before .before .before .before in
-    let a = b .before .before .before .args in
-    let g = ap (textGate (a .text .now)) (length-take-le _ _ h ∙ m .ensures) ∙ sym (short (a .text .now) _ (b .if1 .left)) in (
+    let g = ap (textGate (a .text .now)) (length-take-le _ _ h ∙ m .ensures) ∙ sym (short (a .text .now) _ (f .before .if1 .left)) in (
       toZ-ofZ w64 _ (record { sfits = r .ok }) ∙ r .ensures .0 ∙ ap (λ x. wireOf (through x (at (length (a .text .now))))) g,
       r .ensures .1 ∙ ap (λ x. leftRow x (a .text .now) (a .row .now)) g,
     )

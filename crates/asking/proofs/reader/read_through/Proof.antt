@@ -17,21 +17,28 @@ use borrow.Author.Needs.{needs}
 use Rattle.asking.proofs.reader.read_through.Statement.{statement}
 use Rattle.asking.proofs.reader.read_through.Tie as tie
 
+-- from the reader's answer back to the entry
+abbrev entry : tie.After-read-text → tie.Start
+entry c = let asked = c .before in asked .before .before .before .before
+
+-- from where that answer is found to be no refusal back to it
+abbrev read : tie.At-match-keys2 → tie.After-read-text
+read c = c .before .before .before
+
 -- where bits are counted the tests are passed, and the count is the text's length
 passed : (c : tie.After-n)
-    → let a = c .before .before .before .before .before .before .before .before .before .args in
+    → let a = entry (read (c .before)) .args in
     (textGate (a .text .now) (length (a .words .now)) ≡ Open) × (c .n .given .0 .0 ≡ length (a .text .now))
-passed c = count-open _ _ _ (sym (ap paperRead (c .n .given .1)) ∙ c .before .before .before .before .read-text .ensures .0)
+passed c = count-open _ _ _ (sym (ap paperRead (c .n .given .1)) ∙ read (c .before) .read-text .ensures .0)
 
 -- and there are as many words as are written
 fits : (c : tie.After-n)
-    → let a = c .before .before .before .before .before .before .before .before .before .args in
+    → let a = entry (read (c .before)) .args in
     (c .n .given .0 .0 ≤ 4294967296) × (wordsFor (c .n .given .0 .0) ≤ length (a .words .now))
 fits c = let p = passed c in rw (p .1) (text-fits _ _ (p .0))
 
-enough : (c : tie.After-words-for) → c .words-for .result ≤ length (c .before .before .before .before .before .before .read-text .last .1 .0)
-enough c =
-    omega (arith, fits (c .before .before) .1, c .words-for .ensures, c .before .before .before .before .before .before .read-text .kept .1 .0)
+enough : (c : tie.After-words-for) → let n = c .before .before in c .words-for .result ≤ length (read (n .before) .read-text .last .1 .0)
+enough c = let n = c .before .before in omega (arith, fits n .1, c .words-for .ensures, read (n .before) .read-text .kept .1 .0)
 
 read-text-requires : tie.Need-read-text-requires
 read-text-requires c κs = search needs
@@ -57,20 +64,25 @@ slice-aggregate-write-words c = sym (length-take-le _ _ (enough (c .before)))
 write-words-requires : tie.Need-write-words-requires
 write-words-requires c κs =
     let e = c .before .before in
-    let b = e .before .before .before .before .before .before in
-    rw (length-take-le _ _ (enough e)) (omega (arith, enough e, b .read-text .kept .1 .0, b .before .before .before .before .before .pre))
+    let b = read (e .before .before .before) in
+    rw (length-take-le _ _ (enough e)) (omega (arith, enough e, b .read-text .kept .1 .0, entry b .pre))
 
 cast-result : tie.Need-cast-result
-cast-result c = let f = fits (c .before .before .before .before .before .before .before) .0 in record { sfits = omega arith }
+cast-result c =
+    let w = c .before .before in
+    let e = w .before .before .before in
+    let f = fits (e .before .before) .0 in
+    record { sfits = omega arith }
 
 same-length : tie.Need-same-length
 same-length c = search needs
 
 returns : tie.Need-returns
 returns c =
-    let r = c .before .before .before .before .before .before in
-    let a = r .before .before .before .before .before .args in
-    let e = sym (ap paperRead (c .before .before .k .given .1)) ∙ r .read-text .ensures .0 in (
+    let k = c .before .before in
+    let b = k .before .before .before .before in
+    let a = entry b .args in
+    let e = sym (ap paperRead (k .k .given .1)) ∙ b .read-text .ensures .0 in (
       toZ-ofZ w64 _ (record { sfits = c .refused .ok }) ∙ c .refused .ensures ∙ ap wireOf e,
       row-shut (a .text .now) (a .words .now) (a .row .now) _ e,
     )
@@ -86,8 +98,8 @@ returns-2 c =
     let w = c .before .before in
     let e = w .before .before .before in
     let n = e .before .before in
-    let b = n .before .before .before .before .read-text .ensures in
-    let a = n .before .before .before .before .before .before .before .before .before .args in
+    let b = read (n .before) .read-text .ensures in
+    let a = entry (read (n .before)) .args in
     let f = fits n .0 in (
       toZ-pos w64 _ (omega arith) ∙ ap wireOf (sym (ap paperRead (n .n .given .1)) ∙ b .0),
       w .write-words .ensures
