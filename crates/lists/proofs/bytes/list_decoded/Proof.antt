@@ -37,8 +37,9 @@ same-length c = search needs
 
 returns : tie.Need-returns
 returns c =
-    let p = c .before .before .before .put-listing in
-    let b = c .before .before .before .before .before .before in
+    let d = c .before .before .before in
+    let b = d .before .before .before in
+    let p = d .put-listing in
     let t = length-take-le _ _ (fits (b .before)) ∙ b .before .fitting .ensures in (
       toZ-ofZ w64 _ (record { sfits = p .ok }) ∙ p .ensures .0 ∙ ap wireOf (count-cut _ _ _ _ _ _ _ _ _ (b .bits .ensures) t),
       p .ensures .1 ∙ bytes-cut _ _ _ _ _ _ _ _ _ (b .bits .ensures) t _,

@@ -16,21 +16,28 @@ use Rattle.lists.proofs.Listed.{count-low, bytes-shut, bytes-open}
 use Rattle.lists.proofs.bytes.put_listing.Statement.{statement}
 use Rattle.lists.proofs.bytes.put_listing.Tie as tie
 
+-- from the count back to the listing that it is of, and from that to the entry
+abbrev listed : tie.After-c → tie.After-list
+listed c = c .before .before .before
+
+abbrev entry : tie.After-list → tie.Start
+entry c = c .before .before .before .before
+
 -- what is counted
-counted : (c : tie.After-c) → at (c .c .given .0 .0) ≡ paperListed (c .before .before .before .list .result)
+counted : (c : tie.After-c) → at (c .c .given .0 .0) ≡ paperListed (listed c .list .result)
 counted c = sym (ap paperListed (c .c .given .1))
 
 low : (c : tie.After-c) → c .c .given .0 .0 < 4294967299
-low c = count-low _ _ _ _ _ _ _ _ (counted c ∙ c .before .before .before .list .ensures .0)
+low c = count-low _ _ _ _ _ _ _ _ (counted c ∙ listed c .list .ensures .0)
 
 -- there are as many numbers as are counted, and what they leave as bytes
 written : (c : tie.After-c) →
-    let a = c .before .before .before .before .before .before .before .args in
-    let ys = c .before .before .before .list .last .1 .1 .1 .1 .1 .1 .0 in
+    let a = entry (listed c) .args in
+    let ys = listed c .list .last .1 .1 .1 .1 .1 .1 .0 in
     (c .c .given .0 .0 ≤ length ys)
     × (numbersOver (take (c .c .given .0 .0) ys) (a .out .now)
     ≡ listedBytes (a .rising) (a .words .now) (a .n) (a .nodes .now) (a .block) (a .node) (length (a .answers .now)) (a .out .now))
-written c = let e = c .before .before .before .list .ensures in bytes-open _ _ _ _ _ _ _ _ _ _ (counted c ∙ e .0) (e .1)
+written c = let e = listed c .list .ensures in bytes-open _ _ _ _ _ _ _ _ _ _ (counted c ∙ e .0) (e .1)
 
 list-requires : tie.Need-list-requires
 list-requires c κs = search needs
@@ -53,18 +60,22 @@ slice-aggregate-write-numbers c = sym (length-take-le _ _ (written (c .before .b
 write-numbers-requires : tie.Need-write-numbers-requires
 write-numbers-requires c κs =
     let e = c .before .before .before in
-    let b = e .before .before .before in
-    rw (length-take-le _ _ (written e .0)) (omega (arith, written e .0, b .list .kept .1 .1 .1 .1 .1 .1 .0, b .before .before .before .before .pre))
+    let b = listed e in
+    rw (length-take-le _ _ (written e .0)) (omega (arith, written e .0, b .list .kept .1 .1 .1 .1 .1 .1 .0, entry b .pre))
 
 cast-result : tie.Need-cast-result
-cast-result c = let l = low (c .before .before .before .before .before .before) in record { sfits = omega arith }
+cast-result c =
+    let w = c .before .before in
+    let l = low (w .before .before .before .before) in
+    record { sfits = omega arith }
 
 same-length : tie.Need-same-length
 same-length c = search needs
 
 returns : tie.Need-returns
 returns c =
-    let e = sym (ap paperListed (c .before .before .k .given .1)) ∙ c .before .before .before .before .before .list .ensures .0 in
+    let k = c .before .before in
+    let e = sym (ap paperListed (k .k .given .1)) ∙ k .before .before .before .list .ensures .0 in
     (toZ-ofZ w64 _ (record { sfits = c .refused .ok }) ∙ c .refused .ensures ∙ ap wireOf e, bytes-shut _ _ _ _ _ _ _ _ _ e)
 
 same-length-2 : tie.Need-same-length-2
@@ -75,10 +86,11 @@ same-length-3 c = search needs
 
 returns-2 : tie.Need-returns-2
 returns-2 c =
-    let e = c .before .before .before .before .before .before in
+    let w = c .before .before in
+    let e = w .before .before .before .before in
     let l = low e in (
-      toZ-pos w64 _ (omega arith) ∙ ap wireOf (counted e ∙ e .before .before .before .list .ensures .0),
-      c .before .before .write-numbers .ensures ∙ written e .1,
+      toZ-pos w64 _ (omega arith) ∙ ap wireOf (counted e ∙ listed e .list .ensures .0),
+      w .write-numbers .ensures ∙ written e .1,
     )
 
 pub put-listing-spec : {M : Type 1} → statement M

@@ -13,6 +13,16 @@ use Rattle.lists.specs.Listings.{listedBytes}
 use Rattle.lists.proofs.bytes.to_bytes.Statement.{statement}
 use Rattle.lists.proofs.bytes.to_bytes.Tie as tie
 
+-- from the lent numbers back to the decoded ones, from those to the decoded words, and from these to the entry
+abbrev numbers : tie.After-numbers3 → tie.After-take-numbers
+numbers c = c .before .before .before
+
+abbrev words : tie.After-take-numbers → tie.After-take-words
+words c = c .before .before .before
+
+abbrev entry : tie.After-take-words → tie.Start
+entry c = let asked = c .before in asked .before .before .before .before
+
 slice-aggregate-take-words : tie.Need-slice-aggregate-take-words
 slice-aggregate-take-words c = search needs
 
@@ -30,18 +40,16 @@ array-share-prefix-words c = search needs
 
 slice-aggregate-list-decoded : tie.Need-slice-aggregate-list-decoded
 slice-aggregate-list-decoded c =
-    let t = c .before .before .before .before .before in
-    let s = t .before .before .before .before .before .args .row .now in
-    lent (λ j. wordAt s (8 * j)) _ _ (t .take-words .ensures .1)
+    let w = words (c .before .before) in
+    lent (λ j. wordAt (entry w .args .row .now) (8 * j)) _ _ (w .take-words .ensures .1)
 
 array-share-prefix-numbers : tie.Need-array-share-prefix-numbers
 array-share-prefix-numbers c = search needs
 
 slice-aggregate-list-decoded-2 : tie.Need-slice-aggregate-list-decoded-2
 slice-aggregate-list-decoded-2 c =
-    let t = c .before .before .before in
-    let s = t .before .before .before .before .before .before .before .before .args .nodes .now in
-    lent (λ j. numberAt s (8 * j)) _ _ (t .take-numbers .ensures .1)
+    let t = numbers c in
+    lent (λ j. numberAt (entry (words t) .args .nodes .now) (8 * j)) _ _ (t .take-numbers .ensures .1)
 
 list-decoded-requires : tie.Need-list-decoded-requires
 list-decoded-requires c κs = search needs
@@ -51,10 +59,11 @@ same-length c = search needs
 
 returns : tie.Need-returns
 returns c =
-    let t = c .before .before .before .before .before .before .before in
-    let w = t .before .before .before in
-    let a = w .before .before .before .before .before .args in
-    let l = c .before .before .list-decoded in
+    let d = c .before .before in
+    let t = numbers (d .before .before) in
+    let w = words t in
+    let a = entry w .args in
+    let l = d .list-decoded in
     let o = a .out .now in
     let p = w .take-words .ensures .1 ∙ ap (wordsIn (a .row .now)) (w .take-words .ensures .0) in
     let q = t .take-numbers .ensures .1 ∙ ap (numbersIn (a .nodes .now)) (t .take-numbers .ensures .0) in (

@@ -12,12 +12,16 @@ use Rattle.lists.proofs.Listed.{count-low}
 use Rattle.lists.proofs.numbers.to_numbers.Statement.{statement}
 use Rattle.lists.proofs.numbers.to_numbers.Tie as tie
 
+-- from the count back to the listing that it is of
+abbrev listed : tie.After-known-told → tie.After-list
+listed c = c .before .before .before .before
+
 -- what is counted
-counted : (c : tie.After-known-told) → at (c .before .c .given .0 .0) ≡ paperListed (c .before .before .before .before .list .result)
+counted : (c : tie.After-known-told) → at (c .before .c .given .0 .0) ≡ paperListed (listed c .list .result)
 counted c = sym (ap paperListed (c .before .c .given .1))
 
 low : (c : tie.After-known-told) → c .before .c .given .0 .0 < 4294967299
-low c = count-low _ _ _ _ _ _ _ _ (counted c ∙ c .before .before .before .before .list .ensures .0)
+low c = count-low _ _ _ _ _ _ _ _ (counted c ∙ listed c .list .ensures .0)
 
 list-requires : tie.Need-list-requires
 list-requires c κs = search needs
@@ -40,7 +44,7 @@ same-length c = search needs
 returns : tie.Need-returns
 returns c =
     let l = low c in
-    let e = c .before .before .before .before .list .ensures in
+    let e = listed c .list .ensures in
     (toZ-pos w64 _ (omega arith) ∙ ap wireOf (counted c ∙ e .0), e .1)
 
 same-length-2 : tie.Need-same-length-2
@@ -48,9 +52,10 @@ same-length-2 c = search needs
 
 returns-2 : tie.Need-returns-2
 returns-2 c =
-    let e = c .before .before .before .before .before .list .ensures in
-    let k = sym (ap paperListed (c .before .before .k .given .1)) ∙ e .0 in
-    (toZ-ofZ w64 _ (record { sfits = c .refused .ok }) ∙ c .refused .ensures ∙ ap wireOf k, e .1)
+    let k = c .before .before in
+    let e = k .before .before .before .list .ensures in
+    let r = sym (ap paperListed (k .k .given .1)) ∙ e .0 in
+    (toZ-ofZ w64 _ (record { sfits = c .refused .ok }) ∙ c .refused .ensures ∙ ap wireOf r, e .1)
 
 pub to-numbers-spec : {M : Type 1} → statement M
 to-numbers-spec =
