@@ -59,9 +59,13 @@ add-result-3 c = search needs
 returns : tie.Need-returns
 unfolding halfAt
 returns c =
-    let p = c .before .before .before .before .before .before .wide .ensures in
-    let q = c .before .before .before .before .wide2 .ensures in
-    let r = c .before .before .wide3 .ensures in
+    -- the bytes, from the last to the first
+    let k = c .before .before in
+    let j = k .before .before in
+    let i = j .before .before in
+    let p = i .wide .ensures in
+    let q = j .wide2 .ensures in
+    let r = k .wide3 .ensures in
     let s = c .wide4 .ensures in
     (simp (p .0, q .0, r .0, s .0), omega (arith, p .1, q .1, r .1, s .1))
 

@@ -18,9 +18,10 @@ same-length c = search needs
 
 returns : tie.Need-returns
 returns c =
-    let a = c .before .before .before .before .before .before in
-    let w = rw (toZ-ofZ w64 _ (a .fits .z)) at (c .before .before .before .to-word .ensures) in
-    c .before .before .put .ensures ∙ ap (putAt (a .args .b .now) (a .args .i)) w
+    let p = c .before .before in
+    let a = p .before .before .before .before in
+    let w = rw (toZ-ofZ w64 _ (a .fits .z)) at (p .before .to-word .ensures) in
+    p .put .ensures ∙ ap (putAt (a .args .b .now) (a .args .i)) w
 
 pub put-number-spec : {M : Type 1} → statement M
 put-number-spec = tie.close (tie.spec to-word-requires put-requires same-length returns)

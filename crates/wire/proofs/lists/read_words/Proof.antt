@@ -15,6 +15,10 @@ Inv-loop bytes out₀ i₀ out i = (i ≤ length out₀) × (length out ≡ leng
 abbrev μ-loop : tie.MeasureT-loop
 μ-loop bytes out₀ i₀ out i = length out₀ - i
 
+-- from the loop's head back to the entry
+abbrev entry : tie.At-loop Inv-loop μ-loop → tie.Start Inv-loop μ-loop
+entry c = c .before .before .before
+
 loop-holds : tie.Need-loop-holds Inv-loop μ-loop
 loop-holds c = (search needs, refl, λ j l. absurd (omega arith))
 
@@ -39,7 +43,7 @@ loop-less c = search needs
 loop-again : tie.Need-loop-again Inv-loop μ-loop
 loop-again c =
     let b = c .before .before in
-    let s = c .before .before .before .before .before .args .bytes .now in (
+    let s = entry b .args .bytes .now in (
       search needs,
       simp length-set (search needs),
       more (b .loop .out) 0 _ (λ j. wordAt s (8 * j)) (b .loop .i) (omega arith) (b .loop .inv .2) (c .word .ensures),
@@ -51,7 +55,7 @@ same-length c = search needs
 returns : tie.Need-returns Inv-loop μ-loop
 returns c =
     let b = c .before .loop in
-    let s = c .before .before .before .before .args .bytes .now in
+    let s = entry (c .before) .args .bytes .now in
     each-made (b .out) 0 (λ j. wordAt s (8 * j)) _ (b .inv .1) (λ j l. b .inv .2 j (omega arith))
 
 pub read-words-spec : {M : Type 1} → statement M

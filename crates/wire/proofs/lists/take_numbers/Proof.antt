@@ -10,6 +10,10 @@ use borrow.Author.Needs.{needs}
 use Rattle.wire.proofs.lists.take_numbers.Statement.{statement}
 use Rattle.wire.proofs.lists.take_numbers.Tie as tie
 
+-- from where it is known how many numbers fit back to the entry
+abbrev entry : tie.After-fitting → tie.Start
+entry c = c .before .before
+
 fitting-requires : tie.Need-fitting-requires
 fitting-requires c κs = search needs
 
@@ -18,8 +22,9 @@ slice-relend-prefix-read-numbers c = search needs
 
 slice-aggregate-read-numbers : tie.Need-slice-aggregate-read-numbers
 slice-aggregate-read-numbers c =
-    let a = c .before .before .before .args .out .now in
-    let h : c .before .fitting .result ≤ length a = omega (arith, c .before .fitting .ensures) in
+    let f = c .before in
+    let a = entry f .args .out .now in
+    let h : f .fitting .result ≤ length a = omega (arith, f .fitting .ensures) in
     sym (length-take-le _ a h)
 
 read-numbers-requires : tie.Need-read-numbers-requires
@@ -30,8 +35,9 @@ same-length c = search needs
 
 returns : tie.Need-returns
 returns c =
-    let a = c .before .before .before .before .before .args in
-    let e = c .before .before .before .fitting in
+    let f = c .before .before .before in
+    let a = entry f .args in
+    let e = f .fitting in
     let h : e .result ≤ length (a .out .now) = omega (arith, e .ensures) in
     (e .ensures, prefix-made (λ j. numberAt (a .bytes .now) (8 * j)) (a .out .now) _ _ (e .result) h (c .before .read-numbers .ensures))
 

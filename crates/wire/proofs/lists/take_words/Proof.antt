@@ -10,6 +10,10 @@ use borrow.Author.Needs.{needs}
 use Rattle.wire.proofs.lists.take_words.Statement.{statement}
 use Rattle.wire.proofs.lists.take_words.Tie as tie
 
+-- from where it is known how many words fit back to the entry
+abbrev entry : tie.After-fitting → tie.Start
+entry c = c .before .before .before
+
 fitting-requires : tie.Need-fitting-requires
 fitting-requires c κs = search needs
 
@@ -18,8 +22,9 @@ slice-relend-prefix-read-words c = search needs
 
 slice-aggregate-read-words : tie.Need-slice-aggregate-read-words
 slice-aggregate-read-words c =
-    let a = c .before .before .before .before .args .out .now in
-    let h : c .before .fitting .result ≤ length a = omega (arith, c .before .fitting .ensures) in
+    let f = c .before in
+    let a = entry f .args .out .now in
+    let h : f .fitting .result ≤ length a = omega (arith, f .fitting .ensures) in
     sym (length-take-le _ a h)
 
 read-words-requires : tie.Need-read-words-requires
@@ -30,8 +35,9 @@ same-length c = search needs
 
 returns : tie.Need-returns
 returns c =
-    let a = c .before .before .before .before .before .before .before .args in
-    let e = c .before .before .before .before .fitting in
+    let f = c .before .before .before .before in
+    let a = entry f .args in
+    let e = f .fitting in
     let h : e .result ≤ length (a .out .now) = omega (arith, e .ensures) in
     (e .ensures, prefix-made (λ j. wordAt (a .bytes .now) (8 * j)) (a .out .now) _ _ (e .result) h (c .before .before .read-words .ensures))
 

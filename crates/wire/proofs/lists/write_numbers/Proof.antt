@@ -21,6 +21,10 @@ Inv-loop numbers bytes₀ i₀ bytes i =
 abbrev μ-loop : tie.MeasureT-loop
 μ-loop numbers bytes₀ i₀ bytes i = length numbers - i
 
+-- from the loop's head back to the entry
+abbrev entry : tie.At-loop Inv-loop μ-loop → tie.Start Inv-loop μ-loop
+entry c = c .before .before
+
 loop-holds : tie.Need-loop-holds Inv-loop μ-loop
 loop-holds c = let a = c .before .args in (search needs, over-none (map (ofZ w64) (a .numbers .now)) (a .bytes .now), refl)
 
@@ -44,12 +48,14 @@ loop-less c = search needs
 
 loop-again : tie.Need-loop-again Inv-loop μ-loop
 loop-again c =
-    let a = c .before .before .before .before .before .before .before .before .args in
-    let b = c .before .before .before .before .before .before .loop in
-    let p = c .before .before .put-number in
+    let d = c .before .before in
+    let l = d .before .before .before .before in
+    let a = entry l .args in
+    let b = l .loop in
+    let p = d .put-number in
     let zs = a .numbers .now in
     let z = getD zs (b .i) (pos 0) in
-    let f : SFits w64 z = record { sfits = c .before .before .before .put-number-arg2 .given } in
+    let f : SFits w64 z = record { sfits = d .before .put-number-arg2 .given } in
     let h : b .i < length zs = omega arith in
     let g : b .i < length (map (ofZ w64) zs) = rw (length-map zs (ofZ w64)) h in
     let e = ap (ofZ w64) (toZ-ofZ w64 z f) ∙ sym (getD-map (ofZ w64) zs (b .i) (pos 0) 0 h) in
@@ -60,7 +66,7 @@ same-length c = search needs
 
 returns : tie.Need-returns Inv-loop μ-loop
 returns c =
-    let a = c .before .before .before .args in
+    let a = entry (c .before) .args in
     let b = c .before .loop in
     let ws = map (ofZ w64) (a .numbers .now) in
     let i : b .i ≡ length (a .numbers .now) = omega arith in

@@ -15,6 +15,10 @@ Inv-loop words bytes₀ i₀ bytes i = (i ≤ length words) × (bytes ≡ wordsO
 abbrev μ-loop : tie.MeasureT-loop
 μ-loop words bytes₀ i₀ bytes i = length words - i
 
+-- from the loop's head back to the entry
+abbrev entry : tie.At-loop Inv-loop μ-loop → tie.Start Inv-loop μ-loop
+entry c = c .before .before .before
+
 loop-holds : tie.Need-loop-holds Inv-loop μ-loop
 loop-holds c = let a = c .before .before .args in (search needs, over-none (a .words .now) (a .bytes .now), refl)
 
@@ -38,9 +42,11 @@ loop-less c = search needs
 
 loop-again : tie.Need-loop-again Inv-loop μ-loop
 loop-again c =
-    let a = c .before .before .before .before .before .before .before .before .before .args in
-    let b = c .before .before .before .before .before .before .loop in
-    let p = c .before .before .put in (
+    let d = c .before .before in
+    let l = d .before .before .before .before in
+    let a = entry l .args in
+    let b = l .loop in
+    let p = d .put in (
       search needs,
       p .ensures ∙ over-more (a .words .now) (a .bytes .now) (b .bytes) (b .i) _ (omega arith) (b .inv .1) refl,
       p .kept .0 ∙ b .inv .2,
@@ -51,7 +57,7 @@ same-length c = search needs
 
 returns : tie.Need-returns Inv-loop μ-loop
 returns c =
-    let a = c .before .before .before .before .args in
+    let a = entry (c .before) .args in
     let b = c .before .loop in
     let e : b .i ≡ length (a .words .now) = omega arith in
     b .inv .1 ∙ over-all (a .words .now) (a .bytes .now) (b .i) e
