@@ -17,6 +17,13 @@ use borrow.Author.Needs.{needs}
 use Rattle.capi.proofs.bp_build.Statement.{statement}
 use Rattle.capi.proofs.bp_build.Tie as tie
 
+-- from where it is known how many numbers fit back to the decoded words, and from those to the entry
+abbrev words : tie.After-fitting → tie.After-take-words
+words c = c .before .before
+
+abbrev entry : tie.After-take-words → tie.Start
+entry c = c .before .before .before .before
+
 slice-aggregate-take-words : tie.Need-slice-aggregate-take-words
 slice-aggregate-take-words c = search needs
 
@@ -31,9 +38,8 @@ array-share-prefix-words c = search needs
 
 slice-aggregate-build : tie.Need-slice-aggregate-build
 slice-aggregate-build c =
-    let t = c .before .before .before in
-    let s = t .before .before .before .before .args .row .now in
-    lent (λ j. wordAt s (8 * j)) _ _ (t .take-words .ensures .1)
+    let t = words (c .before) in
+    lent (λ j. wordAt (entry t .args .row .now) (8 * j)) _ _ (t .take-words .ensures .1)
 
 bits-requires : tie.Need-bits-requires
 bits-requires c κs = search needs
@@ -49,11 +55,9 @@ slice-aggregate-build-2 c =
 build-requires : tie.Need-build-requires
 build-requires c κs =
     let f = c .before .before .before .before in
-    let t = f .before .before in
     let m = f .fitting in
     let h : m .result ≤ 3069 = omega (arith, m .ensures) in
-    let s = t .before .before .before .before .args .nodes .now in
-    let e : 8 * m .result ≤ length s = omega (arith, m .ensures) in
+    let e : 8 * m .result ≤ length (entry (words f) .args .nodes .now) = omega (arith, m .ensures) in
     rw (length-take-le _ _ h) e
 
 same-length : tie.Need-same-length
@@ -61,13 +65,12 @@ same-length c = search needs
 
 returns : tie.Need-returns
 returns c =
-    -- where the build, the bit count, the room and the words are answered, from the last to the first
+    -- where the build, the bit count and the room are answered, from the last to the first
     let b = c .before .before .before in
     let n = b .before .before .before in
     let f = n .before .before in
-    let t = f .before .before in
-    let a = t .before .before .before .before .args in
-    let w = t .take-words .ensures in
+    let a = entry (words f) .args in
+    let w = words f .take-words .ensures in
     let m = f .fitting in
     let h : m .result ≤ 3069 = omega (arith, m .ensures) in
     let e = b .build .ensures in

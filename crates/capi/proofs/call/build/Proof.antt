@@ -18,21 +18,28 @@ use borrow.Author.Needs.{needs}
 use Rattle.capi.proofs.call.build.Statement.{statement}
 use Rattle.capi.proofs.call.build.Tie as tie
 
+-- from a build that is done back to its answer, and from that to the entry
+abbrev built : tie.After-enum-told → tie.After-build
+built c = c .before .before .before
+
+abbrev entry : tie.After-build → tie.Start
+entry c = c .before .before .before .before
+
 -- what the tests say
 abbrev gate : tie.After-build → Gate
 gate c =
-    let a = c .before .before .before .before .args in
+    let a = entry c .args in
     nodesGate (length (a .words .now)) (a .n) (length (a .numbers .now)) (a .block)
 
 -- in the arm that writes, they are passed
-passed : (c : tie.After-enum-told) → gate (c .before .before .before) ≡ Open
-passed c = built-open _ (sym (ap paperBuilt (c .enum-told .given .1)) ∙ c .before .before .before .build .ensures .0)
+passed : (c : tie.After-enum-told) → gate (built c) ≡ Open
+passed c = built-open _ (sym (ap paperBuilt (c .enum-told .given .1)) ∙ built c .build .ensures .0)
 
 -- and there are as many numbers as are written
-enough : (c : tie.After-node-numbers) → c .node-numbers .result ≤ length (c .before .before .before .before .build .last .1 .1 .0)
+enough : (c : tie.After-node-numbers) → c .node-numbers .result ≤ length (built (c .before) .build .last .1 .1 .0)
 enough c =
     let f = gate-fine _ _ _ _ (passed (c .before)) in
-    omega (arith, c .node-numbers .ensures, f .nodes, c .before .before .before .before .build .kept .1 .1 .0)
+    omega (arith, c .node-numbers .ensures, f .nodes, built (c .before) .build .kept .1 .1 .0)
 
 build-requires : tie.Need-build-requires
 build-requires c κs = search needs
@@ -58,15 +65,16 @@ slice-aggregate-write-numbers c = sym (length-take-le _ _ (enough (c .before)))
 write-numbers-requires : tie.Need-write-numbers-requires
 write-numbers-requires c κs =
     let e = c .before .before in
-    let b = e .before .before .before .before in
-    rw (length-take-le _ _ (enough e)) (omega (arith, enough e, b .build .kept .1 .1 .0, b .before .before .before .before .pre))
+    let b = built (e .before) in
+    rw (length-take-le _ _ (enough e)) (omega (arith, enough e, b .build .kept .1 .1 .0, entry b .pre))
 
 same-length : tie.Need-same-length
 same-length c = search needs
 
 returns : tie.Need-returns
 returns c =
-    let e = sym (ap paperBuilt (c .before .before .k .given .1)) ∙ c .before .before .before .before .before .build .ensures .0 in
+    let k = c .before .before in
+    let e = sym (ap paperBuilt (k .k .given .1)) ∙ k .before .before .before .build .ensures .0 in
     (toZ-ofZ w64 _ (record { sfits = c .refused .ok }) ∙ c .refused .ensures ∙ ap wireOf e, bytes-shut _ _ _ _ _ _ e)
 
 same-length-2 : tie.Need-same-length-2
@@ -79,7 +87,7 @@ returns-2 : tie.Need-returns-2
 returns-2 c =
     let w = c .before .before in
     let e = w .before .before .before in
-    let b = e .before .before .before .before in
+    let b = built (e .before) in
     let g = passed (e .before) in (
       ap (λ x. wireOf (through x (at 0))) (sym g),
       w .write-numbers .ensures ∙ bytes-open _ _ _ _ _ _ _ _ refl g (b .build .ensures .1) (e .node-numbers .ensures),
