@@ -9,8 +9,9 @@ read-text-requires c κs = search needs
 
 read-requires : tie.Need-read-requires
 read-requires c κs =
-    let a = c .before .before .before .before .before .before .args in
-    small-as (c .before .before .read-text .ensures .0) (read-small (a .text .now) (a .words .now))
+    let t = c .before .before in
+    let a = t .before .before .before .before .args in
+    small-as (t .read-text .ensures .0) (read-small (a .text .now) (a .words .now))
 
 same-length : tie.Need-same-length
 same-length c = search needs
