@@ -16,6 +16,14 @@ use Rattle.sibling.proofs.Moves.{last-bare, last-at, last-nothing, last
 use Rattle.sibling.proofs.last_of.Statement.{statement}
 use Rattle.sibling.proofs.last_of.Tie as tie
 
+-- from where v has a child back to the entry
+abbrev entry : tie.Else1 → tie.Start
+entry c = c .before .before .before
+
+-- from the position where v closes back to the walk that found it
+abbrev walked : tie.After-known-told → tie.After-walk-fwd
+walked c = c .before .before .before
+
 add-is-open : tie.Need-add-is-open
 add-is-open c = search needs
 
@@ -26,7 +34,7 @@ returns : tie.Need-returns
 returns c = last-bare _ _ _ _ (sym (c .before .is-open .ensures) ∙ not-true _ (c .if1 .taken))
 
 -- v has a child
-child : (c : tie.Else1) → (let a = c .before .before .before .args in opens (a .words .now) (a .n) (a .v + 1) ≡ true)
+child : (c : tie.Else1) → (let a = entry c .args in opens (a .words .now) (a .n) (a .v + 1) ≡ true)
 child c = sym (c .before .is-open .ensures) ∙ not-false _ (c .if1 .left)
 
 walk-fwd-requires : tie.Need-walk-fwd-requires
@@ -36,13 +44,13 @@ enum-known-c : tie.Need-enum-known-c
 enum-known-c c = search needs
 
 -- v closes at a position past it
-closes : (c : tie.After-known-told) → (let a = c .before .before .before .before .before .before .before .args in
+closes : (c : tie.After-known-told) → (let a = entry (walked c .before) .args in
     walk forward (a .words .now) (a .n) (a .block) (a .nodes .now) (a .v) (negsuc 0) .answer ≡ at (c .before .c .given .0 .0))
-closes c = said (c .before .before .before .walk-fwd .ensures) (c .before .c .given .1)
+closes c = said (walked c .walk-fwd .ensures) (c .before .c .given .1)
 
-past : (c : tie.After-known-told) → (let a = c .before .before .before .before .before .before .before .args in a .v < c .before .c .given .0 .0)
+past : (c : tie.After-known-told) → (let a = entry (walked c .before) .args in a .v < c .before .c .given .0 .0)
 past c =
-    let s = c .before .before .before .before .before .before .before in
+    let s = entry (walked c .before) in
     let a = s .args in
     walk-after (a .words .now) (a .n) (a .block) (a .nodes .now) (omega (arith, s .pre .0 .eight)) (a .v) (negsuc 0) _ (closes c) .0
 
@@ -61,7 +69,7 @@ enum-known-k c = search needs
 returns-2 : tie.Need-returns-2
 returns-2 c =
     let e = c .before in
-    c .walk-bwd .ensures ∙ last-at _ _ _ _ (child (e .before .before .before .before)) _ (closes e)
+    c .walk-bwd .ensures ∙ last-at _ _ _ _ (child (walked e .before)) _ (closes e)
 
 returns-3 : tie.Need-returns-3
 returns-3 c =

@@ -13,6 +13,13 @@ use Rattle.sibling.proofs.Moves.{next-at, next-nothing, next-refused}
 use Rattle.sibling.proofs.next_of.Statement.{statement}
 use Rattle.sibling.proofs.next_of.Tie as tie
 
+-- from the position where v closes back to the walk that found it, and from that to the entry
+abbrev walked : tie.After-known-told → tie.After-walk-fwd
+walked c = c .before .before .before
+
+abbrev entry : tie.After-walk-fwd → tie.Start
+entry c = c .before .before
+
 walk-fwd-requires : tie.Need-walk-fwd-requires
 walk-fwd-requires c κs = search needs
 
@@ -20,18 +27,18 @@ enum-known-c : tie.Need-enum-known-c
 enum-known-c c = search needs
 
 -- v closes at a position of the row
-closes : (c : tie.After-known-told) → (let a = c .before .before .before .before .before .args in
+closes : (c : tie.After-known-told) → (let a = entry (walked c) .args in
     walk forward (a .words .now) (a .n) (a .block) (a .nodes .now) (a .v) (negsuc 0) .answer ≡ at (c .before .c .given .0 .0))
-closes c = said (c .before .before .before .walk-fwd .ensures) (c .before .c .given .1)
+closes c = said (walked c .walk-fwd .ensures) (c .before .c .given .1)
 
-inside : (c : tie.After-known-told) → (let a = c .before .before .before .before .before .args in c .before .c .given .0 .0 < a .n)
+inside : (c : tie.After-known-told) → (let a = entry (walked c) .args in c .before .c .given .0 .0 < a .n)
 inside c =
-    let s = c .before .before .before .before .before in
+    let s = entry (walked c) in
     let a = s .args in
     walk-after (a .words .now) (a .n) (a .block) (a .nodes .now) (omega (arith, s .pre .eight)) (a .v) (negsuc 0) _ (closes c) .1
 
 handle-after-requires : tie.Need-handle-after-requires
-handle-after-requires c κs = (c .before .before .before .before .before .pre .words, inside c)
+handle-after-requires c κs = (entry (walked c) .pre .words, inside c)
 
 enum-told : tie.Need-enum-told
 enum-told c = search needs
