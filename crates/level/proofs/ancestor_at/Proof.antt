@@ -6,8 +6,12 @@ use Rattle.level.proofs.Levels.{told-far, told-near, level-fits, less-f
 use Rattle.level.proofs.ancestor_at.Statement.{statement}
 use Rattle.level.proofs.ancestor_at.Tie as tie
 
+-- from where it searches back to the entry
+abbrev entry : tie.Else2 → tie.Start
+entry c = c .before .before .before .before
+
 -- where it searches, k is not too far
-near : (c : tie.Else2) → (let a = c .before .before .before .before .args in a .k ≤ a .n)
+near : (c : tie.Else2) → (let a = entry c .args in a .k ≤ a .n)
 near c = told-near (c .before .too-far .ensures) (c .if2 .left)
 
 returns : tie.Need-returns
@@ -20,18 +24,18 @@ returns-2 : tie.Need-returns-2
 returns-2 c = ancestor-far _ _ _ _ _ _ (c .before .before .if1 .left) (told-far (c .before .too-far .ensures) (c .if2 .taken))
 
 cast-walk-bwd : tie.Need-cast-walk-bwd
-cast-walk-bwd c = level-fits _ _ (c .before .before .before .before .pre .short) (near c)
+cast-walk-bwd c = level-fits _ _ (entry c .pre .short) (near c)
 
 sub-walk-bwd : tie.Need-sub-walk-bwd
-sub-walk-bwd c = less-fits _ _ (c .before .before .before .before .pre .short) (near c)
+sub-walk-bwd c = less-fits _ _ (entry c .pre .short) (near c)
 
 walk-bwd-requires : tie.Need-walk-bwd-requires
 walk-bwd-requires c κs = search needs
 
 returns-3 : tie.Need-returns-3
 returns-3 c =
-    let e = c .before .before .before in
-    (rw (less-read _ _ (e .before .before .pre .short) (near (c .before))) at (c .walk-bwd .ensures)) ∙ ancestor-up _ _ _ _ _ _ (e .if1 .left)
+    let e = c .before in
+    (rw (less-read _ _ (entry e .pre .short) (near e)) at (c .walk-bwd .ensures)) ∙ ancestor-up _ _ _ _ _ _ (e .before .before .if1 .left)
 
 pub ancestor-at-spec : {M : Type 1} → statement M
 ancestor-at-spec =

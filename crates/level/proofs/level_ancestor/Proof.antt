@@ -7,8 +7,12 @@ use Rattle.level.specs.Levels.{levelAncestor}
 use Rattle.level.proofs.level_ancestor.Statement.{statement}
 use Rattle.level.proofs.level_ancestor.Tie as tie
 
+-- from the gate's answer back to the entry
+abbrev entry : tie.After-admit-node → tie.Start
+entry c = c .before .before
+
 -- in the arm that walks, refusals 1 to 5 are passed
-passed : (c : tie.After-enum-told) → (let a = c .before .before .before .before .args in
+passed : (c : tie.After-enum-told) → (let a = entry (c .before .before) .args in
     nodeGate (a .words .now) (a .n) (a .nodes .now) (a .block) (a .v) ≡ Open)
 passed c = sym (c .before .before .admit-node .ensures) ∙ c .enum-told .given .1
 
@@ -26,13 +30,13 @@ ancestor-at-requires c κs = passed-fine _ _ _ _ _ (passed c)
 
 returns : tie.Need-returns
 returns c =
-    node-shut _ _ _ _ _ (levelAncestor (c .before .before .before .before .before .args .k)) (c .before .e .given .0 .0)
-    (sym (c .before .before .before .admit-node .ensures) ∙ c .before .e .given .1)
+    let g = c .before .before .before in
+    node-shut _ _ _ _ _ (levelAncestor (entry g .args .k)) (c .before .e .given .0 .0) (sym (g .admit-node .ensures) ∙ c .before .e .given .1)
 
 returns-2 : tie.Need-returns-2
 returns-2 c =
-    node-open _ _ _ _ _ (levelAncestor (c .before .before .before .before .before .args .k)) _
-    (passed (c .before)) (c .ancestor-at .ensures)
+    let g = c .before .before .before in
+    node-open _ _ _ _ _ (levelAncestor (entry g .args .k)) _ (passed (c .before)) (c .ancestor-at .ensures)
 
 pub level-ancestor-spec : {M : Type 1} → statement M
 level-ancestor-spec = tie.close (tie.spec admit-node-requires enum-known-e enum-told ancestor-at-requires returns returns-2)
