@@ -8,8 +8,12 @@ use Rattle.ends.proofs.Ends.{leftmost-none, leftmost-root, leftmost-far
 use Rattle.ends.proofs.leftmost_at.Statement.{statement}
 use Rattle.ends.proofs.leftmost_at.Tie as tie
 
+-- from where there are bits and k is not 0 back to the entry
+abbrev entry : tie.Else2 → tie.Start
+entry c = c .before .before .before
+
 -- where it searches, k is not too far
-near : (c : tie.Else3) → (let a = c .before .before .before .before .before .args in a .k ≤ a .n)
+near : (c : tie.Else3) → (let a = entry (c .before .before) .args in a .k ≤ a .n)
 near c = told-near (c .before .too-far .ensures) (c .if3 .left)
 
 returns : tie.Need-returns
@@ -25,7 +29,7 @@ returns-3 : tie.Need-returns-3
 returns-3 c = leftmost-far _ _ _ _ _ (c .before .before .if2 .left) (told-far (c .before .too-far .ensures) (c .if3 .taken))
 
 cast-walk-fwd : tie.Need-cast-walk-fwd
-cast-walk-fwd c = level-fits _ _ (c .before .before .before .before .before .pre .short) (near c)
+cast-walk-fwd c = level-fits _ _ (entry (c .before .before) .pre .short) (near c)
 
 walk-fwd-requires : tie.Need-walk-fwd-requires
 walk-fwd-requires c κs = search needs
@@ -33,7 +37,7 @@ walk-fwd-requires c κs = search needs
 returns-4 : tie.Need-returns-4
 returns-4 c =
     let e = c .before .before .before in
-    (rw (level-read _ _ (e .before .before .before .pre .short) (near (c .before))) at (c .walk-fwd .ensures)) ∙ leftmost-walk _ _ _ _ _ (e .if2 .left)
+    (rw (level-read _ _ (entry e .pre .short) (near (c .before))) at (c .walk-fwd .ensures)) ∙ leftmost-walk _ _ _ _ _ (e .if2 .left)
 
 pub leftmost-at-spec : {M : Type 1} → statement M
 leftmost-at-spec =

@@ -9,8 +9,12 @@ use Rattle.ends.proofs.Rightmost.{root-there}
 use Rattle.ends.proofs.rightmost_at.Statement.{statement}
 use Rattle.ends.proofs.rightmost_at.Tie as tie
 
+-- from where it goes on back to the entry
+abbrev entry : tie.Else1 → tie.Start
+entry c = c .before .before .before
+
 -- where it goes on, k is not too far
-near : (c : tie.Else1) → (let a = c .before .before .before .args in a .k ≤ a .n)
+near : (c : tie.Else1) → (let a = entry c .args in a .k ≤ a .n)
 near c = told-near (c .before .too-far .ensures) (c .if1 .left)
 
 too-far-requires : tie.Need-too-far-requires
@@ -21,7 +25,7 @@ returns c = rightmost-far _ _ _ _ _ _ (told-far (c .before .too-far .ensures) (c
 
 root-start-requires : tie.Need-root-start-requires
 root-start-requires c κs =
-    let s = c .before .before .before in
+    let s = entry c in
     let f = s .pre in
     (f .short, λ h. omega (arith, f .nodes, root-there (s .args .n) (s .args .block) (omega (arith, f .eight)) h))
 
@@ -29,7 +33,7 @@ enum-known-i : tie.Need-enum-known-i
 enum-known-i c = search needs
 
 cast-open-before : tie.Need-cast-open-before
-cast-open-before c = let e = c .before .before .before .before in level-fits _ _ (e .before .before .before .pre .short) (near e)
+cast-open-before c = let e = c .before .before .before .before in level-fits _ _ (entry e .pre .short) (near e)
 
 open-before-requires : tie.Need-open-before-requires
 open-before-requires c κs = search needs
@@ -45,7 +49,7 @@ returns-2 c =
     let g = c .before .before in
     let m = g .before .before in
     let e = m .before in
-    let s = e .before .before .before in
+    let s = entry e in
     on-at _ _ _ (m .root-start .ensures) _ _ (g .i .given .1)
     (rw (level-read (s .args .n) (s .args .k) (s .pre .short) (near e)) at (c .open-before .ensures))
     ∙ rightmost-walk _ _ _ _ _ _ (near e)
