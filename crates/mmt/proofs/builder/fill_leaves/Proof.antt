@@ -19,14 +19,19 @@ Inv-loop t words n block part₀ l b₀ part b = (b ≤ l) × (length part ≡ l
 abbrev μ-loop : tie.MeasureT-loop
 μ-loop t words n block part₀ l b₀ part b = l - b
 
+-- the entry, from the loop
+abbrev entry : tie.At-loop Inv-loop μ-loop → tie.Start Inv-loop μ-loop
+entry t = t .before .before
+
 loop-holds : tie.Need-loop-holds Inv-loop μ-loop
 loop-holds c = (omega arith, omega arith, λ j h. absurd (omega arith))
 
 leaf-numbers-requires : tie.Need-leaf-numbers-requires Inv-loop μ-loop
 leaf-numbers-requires c κs =
-    let s = c .before .before .before .before in
+    let t = c .before .before in
+    let s = entry t in
     let p = s .pre .1 .1 .0 in
-    (s .pre .0, (s .pre .1 .0, (p .0, p .1, p .2, leaves-in (s .args .n) (s .args .block) (omega arith) (c .before .before .loop .b) (omega arith))))
+    (s .pre .0, (s .pre .1 .0, (p .0, p .1, p .2, leaves-in (s .args .n) (s .args .block) (omega arith) (t .loop .b) (omega arith))))
 
 put-node-requires : tie.Need-put-node-requires Inv-loop μ-loop
 put-node-requires c κs = omega arith
@@ -39,17 +44,23 @@ loop-less c = search needs
 
 loop-again : tie.Need-loop-again Inv-loop μ-loop
 loop-again c =
-    let s = c .before .before .before .before .before .before .before .args in
-    let l = c .before .before .before .before .before .loop in
-    let x = c .before .before .leaf-numbers in
-    let e = c .before .put-node .ensures in
-    (omega arith, rw e (put-length (l .part) (l .b) (x .result) ∙ l .inv .1), rw e (filled-more (s .words .now) (s .n) (s .block) (l .b) (l .part) (x .result) (omega arith) (x .ensures) (l .inv .2)))
+    -- where the leaf is measured, and the loop
+    let m = c .before .before in
+    let t = m .before .before .before in
+    let a = entry t .args in
+    let l = t .loop in
+    let x = m .leaf-numbers in
+    let e = c .before .put-node .ensures in (
+      omega arith,
+      rw e (put-length (l .part) (l .b) (x .result) ∙ l .inv .1),
+      rw e (filled-more (a .words .now) (a .n) (a .block) (l .b) (l .part) (x .result) (omega arith) (x .ensures) (l .inv .2)),
+    )
 
 same-length : tie.Need-same-length Inv-loop μ-loop
 same-length c = c .before .loop .inv .1
 
 returns : tie.Need-returns Inv-loop μ-loop
-returns c = let e : c .before .loop .b ≡ leaves (c .before .before .before .args .n) (c .before .before .before .args .block) = omega arith in rw e at (c .before .loop .inv .2)
+returns c = let a = entry (c .before) .args in let e : c .before .loop .b ≡ leaves (a .n) (a .block) = omega arith in rw e at (c .before .loop .inv .2)
 
 pub fill-leaves-spec : {M : Type 1} → statement M
 fill-leaves-spec =

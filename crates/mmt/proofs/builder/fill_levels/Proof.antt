@@ -15,6 +15,10 @@ Inv-loop t words n nodes₀ block first all k₀ nodes k = (k ≤ first) × Leve
 abbrev μ-loop : tie.MeasureT-loop
 μ-loop t words n nodes₀ block first all k₀ nodes k = k
 
+-- the entry, from the loop
+abbrev entry : tie.At-loop Inv-loop μ-loop → tie.Start Inv-loop μ-loop
+entry t = t .before .before
+
 loop-holds : tie.Need-loop-holds Inv-loop μ-loop
 loop-holds c = (omega arith, leveled-start _ _ _ _ _ (c .before .pre .1 .1 .1))
 
@@ -23,17 +27,18 @@ sub-k c = search needs
 
 wanted-requires : tie.Need-wanted-requires Inv-loop μ-loop
 wanted-requires c κs =
-    let s = c .before .before .before .before in
-    let l = c .before .before .loop in
+    let t = c .before .before in
+    let s = entry t in
+    let l = t .loop in
     let f = s .pre .1 .0 in
     let e : (l .k - 1) + 1 ≡ l .k = omega arith in
     (s .pre .0, (rw (l .inv .1 .same) f, ((s .pre .1 .1 .0 .0, s .pre .1 .1 .0 .1, omega arith), rw e (l .inv .1 .nodes))))
 
 put-node-requires : tie.Need-put-node-requires Inv-loop μ-loop
 put-node-requires c κs =
-    let s = c .before .before .before .before .before .before in
-    let l = c .before .before .before .before .loop in
-    let f = s .pre .1 .0 in
+    let t = c .before .before .before .before in
+    let l = t .loop in
+    let f = entry t .pre .1 .0 in
     let g = l .inv .1 .same in
     omega arith
 
@@ -42,10 +47,13 @@ loop-less c = search needs
 
 loop-again : tie.Need-loop-again Inv-loop μ-loop
 loop-again c =
-    let s = c .before .before .before .before .before .before .before .before in
+    -- where the node's numbers are answered, and the loop
+    let w = c .before .before .before in
+    let t = w .before .before .before in
+    let s = entry t in
     let a = s .args in
-    let l = c .before .before .before .before .before .before .loop in
-    let x = c .before .before .before .wanted in
+    let l = t .loop in
+    let x = w .wanted in
     let f = s .pre .1 .0 in
     let e : (l .k - 1) + 1 ≡ l .k = omega arith in
     (omega arith, rw (c .before .put-node .ensures) (leveled-down (a .words .now) (a .n) (a .block) (a .nodes .now) (l .nodes) (l .k - 1) (x .result) (rw (l .inv .1 .same) (f .nodes)) (omega arith) (x .ensures) (rw e (l .inv .1))))

@@ -11,6 +11,13 @@ use Rattle.mmt.proofs.Filled.{back, leveled-on, leaves-leveled, leveled
 use Rattle.mmt.proofs.builder.fill_nodes.Statement.{statement}
 use Rattle.mmt.proofs.builder.fill_nodes.Tie as tie
 
+-- the entry, from the call that fills the leaves, and that call's end, from the call that fills the levels
+abbrev entry : tie.After-fill-leaves-arg → tie.Start
+entry c = c .before .before .before .before
+
+abbrev filled : tie.After-fill-levels-arg → tie.After-fill-leaves
+filled c = c .before .before .before
+
 -- the leaves' part has room for the leaves and no more
 lent : (s : tie.Start) → let a = s .args in length (take (width * a .all - width * a .first) (drop (width * a .first) (a .nodes .now))) ≡ width * leaves (a .n) (a .block)
 lent s =
@@ -19,10 +26,10 @@ lent s =
     simp (length-take, length-drop) (omega (arith, layout-leaves (s .args .n) (s .args .block) (omega arith)))
 
 -- with the leaves' part put back, the leaves are filled
-middle : (c : tie.After-fill-leaves) → let a = c .before .before .before .before .before .args in
+middle : (c : tie.After-fill-leaves) → let a = entry (c .before) .args in
     Leveled (a .words .now) (a .n) (a .block) (a .nodes .now) (inner (a .n) (a .block)) (back (width * a .first) (width * a .all - width * a .first) (a .nodes .now) (c .fill-leaves .last .1 .1 .1 .1 .0))
 middle c =
-    let s = c .before .before .before .before .before in
+    let s = entry (c .before) in
     let a = s .args in
     let f = s .pre .0 in
     let e = s .pre .1 in
@@ -52,14 +59,14 @@ part-fill-leaves-end c = search needs
 
 fill-leaves-requires : tie.Need-fill-leaves-requires
 fill-leaves-requires c κs =
-    let s = c .before .before .before .before in
+    let s = entry c in
     let f = s .pre .0 in
     (c .before .before .table .ensures, ((f .short, f .words), ((f .eight, f .small, f .eights), lent s)))
 
 fill-levels-requires : tie.Need-fill-levels-requires
 fill-levels-requires c κs =
-    let m = c .before .before .before in
-    let s = m .before .before .before .before .before in
+    let m = filled c in
+    let s = entry (m .before) in
     let l = middle m in
     (m .before .before .before .table .ensures, (rw (l .same) (s .pre .0), (s .pre .1, λ j o i. l .nodes j (let e = s .pre .1 .0 in omega arith) i)))
 
@@ -68,8 +75,8 @@ same-length c = search needs
 
 returns : tie.Need-returns
 returns c =
-    let m = c .before .before .before .before .before in
-    let s = m .before .before .before .before .before in
+    let m = filled (c .before .before) in
+    let s = entry (m .before) in
     let a = s .args in
     leveled-written (a .words .now) (a .n) (a .block) (a .nodes .now) (s .pre .0 .nodes) _ (leveled-on _ _ _ _ _ _ _ _ (middle m) (c .before .fill-levels .ensures))
 

@@ -16,6 +16,13 @@ Inv-loop t words n nodes block first all k₀ k = Checked words n block nodes k
 abbrev μ-loop : tie.MeasureT-loop
 μ-loop t words n nodes block first all k₀ k = k
 
+-- the entry, from the loop, and the loop, from where two nodes' numbers are compared
+abbrev entry : tie.At-loop Inv-loop μ-loop → tie.Start Inv-loop μ-loop
+entry t = t .before .before
+
+abbrev top : tie.After-same Inv-loop μ-loop → tie.At-loop Inv-loop μ-loop
+top c = c .before .before .before .before
+
 loop-holds : tie.Need-loop-holds Inv-loop μ-loop
 loop-holds c = let a = c .before .args in rw (c .before .pre .1 .1 .1) (start (a .words .now) (a .n) (a .block) (a .nodes .now))
 
@@ -24,7 +31,7 @@ sub-k c = search needs
 
 wanted-requires : tie.Need-wanted-requires Inv-loop μ-loop
 wanted-requires c κs =
-    let p = c .before .before .before .pre in
+    let p = entry (c .before) .pre in
     let v = c .before .loop .inv in
     (p .0, (p .1 .0, ((p .1 .1 .0, p .1 .1 .1, omega arith), λ j o i. v .ruled j (omega arith) i)))
 
@@ -35,14 +42,14 @@ same-requires : tie.Need-same-requires Inv-loop μ-loop
 same-requires c κs = search needs
 
 -- what the test of the next node down found
-found : (c : tie.After-same Inv-loop μ-loop) → let a = c .before .before .before .before .before .before .args in
-    c .same .result ≡ nodeTest (a .words .now) (a .n) (a .block) (a .nodes .now) (c .before .before .before .before .loop .k - 1)
+found : (c : tie.After-same Inv-loop μ-loop) → let a = entry (top c) .args in
+    c .same .result ≡ nodeTest (a .words .now) (a .n) (a .block) (a .nodes .now) (top c .loop .k - 1)
 found c = c .same .ensures ∙ ap₂ sameNumbers (c .before .node-at .ensures) (c .before .before .wanted .ensures)
 
 returns : tie.Need-returns Inv-loop μ-loop
 returns c =
-    let a = c .before .before .before .before .before .before .before .args in
-    let l = c .before .before .before .before .before .loop in
+    let a = entry (top (c .before)) .args in
+    let l = top (c .before) .loop in
     differs (a .words .now) (a .n) (a .block) (a .nodes .now) (l .k) (l .k - 1) (omega arith) (l .inv) (sym (found (c .before)) ∙ not-true _ (c .if1 .taken))
 
 loop-less : tie.Need-loop-less Inv-loop μ-loop
@@ -50,13 +57,13 @@ loop-less c = search needs
 
 loop-again : tie.Need-loop-again Inv-loop μ-loop
 loop-again c =
-    let a = c .before .before .before .before .before .before .before .args in
-    let l = c .before .before .before .before .before .loop in
+    let a = entry (top (c .before)) .args in
+    let l = top (c .before) .loop in
     down (a .words .now) (a .n) (a .block) (a .nodes .now) (l .k) (l .k - 1) (omega arith) (l .inv) (sym (found (c .before)) ∙ not-false _ (c .if1 .left))
 
 returns-2 : tie.Need-returns-2 Inv-loop μ-loop
 returns-2 c =
-    let a = c .before .before .before .args in
+    let a = entry (c .before) .args in
     let l = c .before .loop in
     done (a .words .now) (a .n) (a .block) (a .nodes .now) (l .k) (omega arith) (l .inv)
 

@@ -10,10 +10,14 @@ use Rattle.mmt.proofs.Tested.{firstTwo, two-agree, two-differ}
 use Rattle.mmt.proofs.check.same.Statement.{statement}
 use Rattle.mmt.proofs.check.same.Tie as tie
 
+-- the entry, from the first test
+abbrev entry : tie.After-struct-told2 → tie.Start
+entry c = c .before .before .before .before
+
 -- where the first two tests meet
-met : (c : tie.Joined1) → let a = c .before .before .before .before .before .args in c .if1 .if2 ≡ firstTwo (a .x) (a .y)
+met : (c : tie.Joined1) → let a = entry (c .before) .args in c .if1 .if2 ≡ firstTwo (a .x) (a .y)
 met c =
-    let a = c .before .before .before .before .before .args in
+    let a = entry (c .before) .args in
     let f : SFits w64 (a .x .total) = omega arith in
     let g : SFits w64 (a .y .total) = omega arith in
     let h : SFits w64 (a .x .least) = omega arith in
@@ -25,14 +29,14 @@ met c =
 
 returns : tie.Need-returns
 returns c =
-    let a = c .before .before .before .before .before .before .before .before .before .before .args in
+    let t = c .before .before .before .before in
+    let a = entry (t .before .before) .args in
     let f : SFits w64 (a .x .greatest) = omega arith in
     let g : SFits w64 (a .y .greatest) = omega arith in
-    let t = c .before .before .before .before in
     bits-eqZ f g ∙ two-agree (a .x) (a .y) (sym (met (t .before)) ∙ t .if2 .taken)
 
 returns-2 : tie.Need-returns-2
-returns-2 c = let a = c .before .before .before .before .before .before .args in c .if2 .left ∙ two-differ (a .x) (a .y) (sym (met (c .before)) ∙ c .if2 .left)
+returns-2 c = let a = entry (c .before .before) .args in c .if2 .left ∙ two-differ (a .x) (a .y) (sym (met (c .before)) ∙ c .if2 .left)
 
 pub same-spec : {M : Type 1} → statement M
 same-spec = tie.close (tie.spec returns returns-2)
