@@ -28,6 +28,13 @@ Inv-loop t words from to r k₀ q₀ k q = Reading backward (bitAt words) (8 * (
 abbrev μ-loop : tie.MeasureT-loop
 μ-loop t words from to r k₀ q₀ k q = k
 
+-- the entry, from the loop, and the loop, from the answer of a word
+abbrev entry : tie.At-loop Inv-loop μ-loop → tie.Start Inv-loop μ-loop
+entry l = l .before .before
+
+abbrev top : tie.After-word-bwd Inv-loop μ-loop → tie.At-loop Inv-loop μ-loop
+top c = c .before .before .before .before
+
 loop-holds : tie.Need-loop-holds Inv-loop μ-loop
 loop-holds c = (reading-start _ _ _ _ _, omega arith)
 
@@ -59,7 +66,7 @@ sub-word-bwd-2 : tie.Need-sub-word-bwd-2 Inv-loop μ-loop
 sub-word-bwd-2 c = search needs
 
 -- the bytes of word (k - 1) / 8 are read
-piece : (c : tie.After-word-bwd Inv-loop μ-loop) → (let e = c .before .before .later .result in let l = c .before .before .before .before in let s = l .before .before .args in
+piece : (c : tie.After-word-bwd Inv-loop μ-loop) → (let e = c .before .before .later .result in let l = top c in let s = entry l .args in
     Piece backward (bitAt (s .words .now)) (8 * (l .loop .k - s .from)) (8 * s .from) (toZ w64 (l .loop .q)) (64 * ((l .loop .k - 1) / 8)) (c .word-bwd .result) (8 * (e - s .from)) (8 * s .from))
 piece c =
     let t = c .before .before .before in
@@ -68,14 +75,14 @@ piece c =
       bits = _;
       begin = _;
       part = part (t .loop-test .taken) e;
-      read = word-scan backward (t .before .before .before .args .words .now) _ (lies (t .loop-test .taken) e) (c .word-bwd .ensures);
+      read = word-scan backward (entry (top c) .args .words .now) _ (lies (t .loop-test .taken) e) (c .word-bwd .ensures);
     }
 
 word-bwd-requires : tie.Need-word-bwd-requires Inv-loop μ-loop
 word-bwd-requires c κs =
     let l = c .before .before .before in
-    let n = rw (toZ-ofZ w64 _ (l .before .before .fits .r)) at (l .loop .inv .0 .near) in
-    (l .before .before .pre .0, (omega arith, omega arith))
+    let n = rw (toZ-ofZ w64 _ (entry l .fits .r)) at (l .loop .inv .0 .near) in
+    (entry l .pre .0, (omega arith, omega arith))
 
 enum-known-j : tie.Need-enum-known-j Inv-loop μ-loop
 enum-known-j c = search needs
@@ -86,8 +93,8 @@ mul-t21 c = search needs
 returns : tie.Need-returns Inv-loop μ-loop
 returns c =
     let p = c .before .before .before in
-    let l = p .before .before .before .before in
-    rw (toZ-ofZ w64 _ (l .before .before .fits .r)) at (piece-hit (l .loop .inv .0) (piece p) (c .before .j .given .1))
+    let l = top p in
+    rw (toZ-ofZ w64 _ (entry l .fits .r)) at (piece-hit (l .loop .inv .0) (piece p) (c .before .j .given .1))
 
 add-t22 : tie.Need-add-t22 Inv-loop μ-loop
 add-t22 c = omega (arith, hit-within backward _ _ _ _ (returns c))
@@ -101,10 +108,10 @@ loop-less c = search needs
 loop-again : tie.Need-loop-again Inv-loop μ-loop
 loop-again c =
     let p = c .before .before .before in
-    (piece-on (p .before .before .before .before .loop .inv .0) (piece p) (c .before .l .given .1) (record { sfits = c .known-told2 .given .0 .1 }), omega arith)
+    (piece-on (top p .loop .inv .0) (piece p) (c .before .l .given .1) (record { sfits = c .known-told2 .given .0 .1 }), omega arith)
 
 returns-2 : tie.Need-returns-2 Inv-loop μ-loop
-returns-2 c = rw (toZ-ofZ w64 _ (c .before .before .before .fits .r)) at (reading-done (c .before .loop .inv .0) (omega arith))
+returns-2 c = rw (toZ-ofZ w64 _ (entry (c .before) .fits .r)) at (reading-done (c .before .loop .inv .0) (omega arith))
 
 pub words-bwd-spec : {M : Type 1} → statement M
 words-bwd-spec =

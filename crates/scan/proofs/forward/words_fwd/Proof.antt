@@ -28,6 +28,13 @@ Inv-loop t words from to r k₀ q₀ k q = Reading forward (bitAt words) (8 * (t
 abbrev μ-loop : tie.MeasureT-loop
 μ-loop t words from to r k₀ q₀ k q = to - k
 
+-- the entry, from the loop, and the loop, from the answer of a word
+abbrev entry : tie.At-loop Inv-loop μ-loop → tie.Start Inv-loop μ-loop
+entry l = l .before .before
+
+abbrev top : tie.After-word-fwd Inv-loop μ-loop → tie.At-loop Inv-loop μ-loop
+top c = c .before .before .before .before
+
 loop-holds : tie.Need-loop-holds Inv-loop μ-loop
 loop-holds c = reading-start _ _ _ _ _
 
@@ -53,7 +60,7 @@ sub-word-fwd : tie.Need-sub-word-fwd Inv-loop μ-loop
 sub-word-fwd c = search needs
 
 -- the bytes of word k / 8 are read
-piece : (c : tie.After-word-fwd Inv-loop μ-loop) → (let e = c .before .before .earlier .result in let l = c .before .before .before .before in let s = l .before .before .args in
+piece : (c : tie.After-word-fwd Inv-loop μ-loop) → (let e = c .before .before .earlier .result in let l = top c in let s = entry l .args in
     Piece forward (bitAt (s .words .now)) (8 * (s .to - l .loop .k)) (8 * l .loop .k) (toZ w64 (l .loop .q)) (64 * (l .loop .k / 8)) (c .word-fwd .result) (8 * (s .to - e)) (8 * e))
 piece c =
     let t = c .before .before .before in
@@ -62,14 +69,14 @@ piece c =
       bits = _;
       begin = _;
       part = part (t .loop-test .taken) e;
-      read = word-scan forward (t .before .before .before .args .words .now) _ (lies (t .loop-test .taken) e) (c .word-fwd .ensures);
+      read = word-scan forward (entry (top c) .args .words .now) _ (lies (t .loop-test .taken) e) (c .word-fwd .ensures);
     }
 
 word-fwd-requires : tie.Need-word-fwd-requires Inv-loop μ-loop
 word-fwd-requires c κs =
     let l = c .before .before .before in
-    let n = rw (toZ-ofZ w64 _ (l .before .before .fits .r)) at (l .loop .inv .near) in
-    (l .before .before .pre .0, (omega arith, omega arith))
+    let n = rw (toZ-ofZ w64 _ (entry l .fits .r)) at (l .loop .inv .near) in
+    (entry l .pre .0, (omega arith, omega arith))
 
 enum-known-j : tie.Need-enum-known-j Inv-loop μ-loop
 enum-known-j c = search needs
@@ -80,8 +87,8 @@ mul-t20 c = search needs
 returns : tie.Need-returns Inv-loop μ-loop
 returns c =
     let p = c .before .before .before in
-    let l = p .before .before .before .before in
-    rw (toZ-ofZ w64 _ (l .before .before .fits .r)) at (piece-hit (l .loop .inv) (piece p) (c .before .j .given .1))
+    let l = top p in
+    rw (toZ-ofZ w64 _ (entry l .fits .r)) at (piece-hit (l .loop .inv) (piece p) (c .before .j .given .1))
 
 add-t21 : tie.Need-add-t21 Inv-loop μ-loop
 add-t21 c = omega (arith, hit-within forward _ _ _ _ (returns c))
@@ -95,10 +102,10 @@ loop-less c = search needs
 loop-again : tie.Need-loop-again Inv-loop μ-loop
 loop-again c =
     let p = c .before .before .before in
-    piece-on (p .before .before .before .before .loop .inv) (piece p) (c .before .l .given .1) (record { sfits = c .known-told2 .given .0 .1 })
+    piece-on (top p .loop .inv) (piece p) (c .before .l .given .1) (record { sfits = c .known-told2 .given .0 .1 })
 
 returns-2 : tie.Need-returns-2 Inv-loop μ-loop
-returns-2 c = rw (toZ-ofZ w64 _ (c .before .before .before .fits .r)) at (reading-done (c .before .loop .inv) (omega arith))
+returns-2 c = rw (toZ-ofZ w64 _ (entry (c .before) .fits .r)) at (reading-done (c .before .loop .inv) (omega arith))
 
 pub words-fwd-spec : {M : Type 1} → statement M
 words-fwd-spec =
