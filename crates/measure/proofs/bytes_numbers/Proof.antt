@@ -17,6 +17,10 @@ Inv-loop t words from to x₀ k₀ x k = (x ≡ numbersOf (bitAt words) (8 * fro
 abbrev μ-loop : tie.MeasureT-loop
 μ-loop t words from to x₀ k₀ x k = to - k
 
+-- the entry, from where the first byte is measured
+abbrev entry : tie.After-byte-numbers Inv-loop μ-loop → tie.Start Inv-loop μ-loop
+entry c = c .before .before .before
+
 byte-requires : tie.Need-byte-requires Inv-loop μ-loop
 byte-requires c κs = search needs
 
@@ -28,7 +32,7 @@ add-k c = search needs
 
 loop-holds : tie.Need-loop-holds Inv-loop μ-loop
 loop-holds c =
-    let s = c .before .before .before .args in
+    let s = entry c .args in
     (c .byte-numbers .ensures ∙ ap (λ (b : ℕ). numbersOf (digit b) 0 8) (c .before .byte .ensures) ∙ bytes-first (s .words .now) (s .from), omega arith, omega arith)
 
 byte-requires-2 : tie.Need-byte-requires-2 Inv-loop μ-loop
@@ -50,12 +54,13 @@ loop-less c = search needs
 
 loop-again : tie.Need-loop-again Inv-loop μ-loop
 loop-again c =
-    let l = c .before .before .before .before .loop in
-    let s = c .before .before .before .before .before .before .before .before .args in
+    let t = c .before .before .before .before in
+    let l = t .loop in
+    let s = entry (t .before) .args in
     (cc (l .inv .0, c .before .before .byte2 .ensures, c .before .byte-numbers2 .ensures, bytes-next (s .words .now) (s .from) (l .k) (omega arith)), omega arith, omega arith)
 
 returns : tie.Need-returns Inv-loop μ-loop
-returns c = let e : c .before .loop .k ≡ c .before .before .before .before .before .args .to = omega arith in rw e at (c .before .loop .inv .0)
+returns c = let s = entry (c .before .before) .args in let e : c .before .loop .k ≡ s .to = omega arith in rw e at (c .before .loop .inv .0)
 
 pub bytes-numbers-spec : {M : Type 1} → statement M
 bytes-numbers-spec =

@@ -8,6 +8,10 @@ use Rattle.measure.proofs.Totals.{whole-numbers, tail-numbers}
 use Rattle.measure.proofs.stretch_numbers.Statement.{statement}
 use Rattle.measure.proofs.stretch_numbers.Tie as tie
 
+-- the entry, from where the bytes are measured
+abbrev entry : tie.After-bytes-numbers → tie.Start
+entry b = b .before .before .before
+
 edge-numbers-requires : tie.Need-edge-numbers-requires
 edge-numbers-requires c κs = search needs
 
@@ -19,7 +23,7 @@ bytes-numbers-requires c κs = search needs
 
 returns-2 : tie.Need-returns-2
 returns-2 c =
-    let s = c .before .before .before .before .args in
+    let s = entry (c .before) .args in
     c .before .bytes-numbers .ensures ∙ whole-numbers (s .words .now) (s .from) (s .to) (omega arith) (omega arith)
 
 mul-edge-numbers : tie.Need-mul-edge-numbers
@@ -34,9 +38,10 @@ join-requires c κs =
 
 returns-3 : tie.Need-returns-3
 returns-3 c =
-    let s = c .before .before .before .before .before .before .args in
+    let b = c .before .before .before in
+    let s = entry b .args in
     c .join .ensures
-    ∙ ap₂ joinOf (c .before .before .before .bytes-numbers .ensures) (c .before .edge-numbers2 .ensures)
+    ∙ ap₂ joinOf (b .bytes-numbers .ensures) (c .before .edge-numbers2 .ensures)
     ∙ tail-numbers (s .words .now) (s .from) (s .to) (omega arith) (omega arith) (omega arith)
 
 pub stretch-numbers-spec : {M : Type 1} → statement M
