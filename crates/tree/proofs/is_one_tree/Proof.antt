@@ -31,10 +31,11 @@ is-body-requires c κs = search needs
 
 returns-3 : tie.Need-returns-3
 returns-3 c =
-    let s = c .before .before .before .before .before .before .args in
+    let o = c .before .before .before in
+    let s = o .before .before .before .args in
     c .is-body .ensures
     ∙ ap (λ (x : Numbers). ltZ (pos 0) (x .least) && eqZ (x .total) (pos 1)) (c .before .body-numbers .ensures)
-    ∙ body-is (s .words .now) (s .n) (omega arith) (sym (c .before .before .before .opens-at .ensures) ∙ c .before .before .if2 .left)
+    ∙ body-is (s .words .now) (s .n) (omega arith) (sym (o .opens-at .ensures) ∙ c .before .before .if2 .left)
 
 pub is-one-tree-spec : {M : Type 1} → statement M
 is-one-tree-spec =
