@@ -16,6 +16,10 @@ Inv-loop word from to x₀ j₀ x j = (x ≡ numbersOf (digit word) from (j - fr
 abbrev μ-loop : tie.MeasureT-loop
 μ-loop word from to x₀ j₀ x j = to - j
 
+-- the entry, from the loop
+abbrev entry : tie.At-loop Inv-loop μ-loop → tie.Start Inv-loop μ-loop
+entry t = t .before .before
+
 bit-numbers-requires : tie.Need-bit-numbers-requires Inv-loop μ-loop
 bit-numbers-requires c κs = search needs
 
@@ -41,14 +45,15 @@ loop-less c = search needs
 
 loop-again : tie.Need-loop-again Inv-loop μ-loop
 loop-again c =
-    let l = c .before .before .before .loop in
-    let s = c .before .before .before .before .before .args in
+    let t = c .before .before .before in
+    let l = t .loop in
+    let s = entry t .args in
     let p : s .from + (l .j - s .from) ≡ l .j = omega arith in
     let n : (l .j - s .from) + 1 ≡ (l .j + 1) - s .from = omega arith in
     (cc (numbers-join (digit (s .word)) (s .from) (l .j - s .from) 1 (omega arith) (omega arith)), omega arith, omega arith)
 
 returns : tie.Need-returns Inv-loop μ-loop
-returns c = let e : c .before .loop .j ≡ c .before .before .before .args .to = omega arith in rw e at (c .before .loop .inv .0)
+returns c = let e : c .before .loop .j ≡ entry (c .before) .args .to = omega arith in rw e at (c .before .loop .inv .0)
 
 pub bits-numbers-spec : {M : Type 1} → statement M
 bits-numbers-spec =

@@ -7,18 +7,23 @@ use Rattle.stretch.specs.Numbers.{holdsFor}
 use Rattle.stretch.proofs.numbers.holds.Statement.{statement}
 use Rattle.stretch.proofs.numbers.holds.Tie as tie
 
+-- the entry, from the first test
+abbrev entry : tie.After-struct-told → tie.Start
+entry c = c .before .before
+
 returns : tie.Need-returns
 unfolding holdsFor
 returns c =
-    let s = c .before .before .before .before .before in
+    let t = c .before .before in
+    let s = entry (t .before) in
     let f : SFits w64 (s .args .x .least) = omega arith in
     let g : SFits w64 (s .args .x .greatest) = omega arith in
-    rw (toZ-ofZ w64 _ (s .fits .r), toZ-ofZ w64 _ g, rw (toZ-ofZ w64 _ f, toZ-ofZ w64 _ (s .fits .r)) at (c .before .before .if1 .taken))
+    rw (toZ-ofZ w64 _ (s .fits .r), toZ-ofZ w64 _ g, rw (toZ-ofZ w64 _ f, toZ-ofZ w64 _ (s .fits .r)) at (t .if1 .taken))
 
 returns-2 : tie.Need-returns-2
 unfolding holdsFor
 returns-2 c =
-    let s = c .before .before .before in
+    let s = entry (c .before) in
     let f : SFits w64 (s .args .x .least) = omega arith in
     rw (toZ-ofZ w64 _ f, toZ-ofZ w64 _ (s .fits .r), rw (toZ-ofZ w64 _ f, toZ-ofZ w64 _ (s .fits .r)) at (c .if1 .left))
 
