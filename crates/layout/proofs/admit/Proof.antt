@@ -9,11 +9,15 @@ use Rattle.layout.proofs.Admitted.{block-fits, gate-block, gate-row, ga
 use Rattle.layout.proofs.admit.Statement.{statement}
 use Rattle.layout.proofs.admit.Tie as tie
 
+-- the entry, from where the block size is found right
+abbrev entry : tie.After-enum-told → tie.Start
+entry c = c .before .before .before
+
 -- the block size is right; the row too
-sized : (c : tie.After-enum-told) → blockGate (c .before .before .before .args .block) ≡ Open
+sized : (c : tie.After-enum-told) → blockGate (entry c .args .block) ≡ Open
 sized c = sym (c .before .before .admit-block .ensures) ∙ c .enum-told .given .1
 
-worded : (c : tie.After-enum-told2) → let a = c .before .before .before .before .before .before .args in rowGate (a .words) (a .n) ≡ Open
+worded : (c : tie.After-enum-told2) → let a = entry (c .before .before .before) .args in rowGate (a .words) (a .n) ≡ Open
 worded c = sym (c .before .before .admit-row .ensures) ∙ c .enum-told2 .given .1
 
 admit-block-requires : tie.Need-admit-block-requires
