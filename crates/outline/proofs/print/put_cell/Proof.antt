@@ -20,9 +20,9 @@ same-length c = search needs
 
 returns : tie.Need-returns
 returns c =
-    let a = c .before .before .before .before .before .before .before .before .before .args in
-    let o = c .before .before .before .before .before .before in
     let p = c .before .before in
+    let o = p .before .before .before .before in
+    let a = o .before .before .before .args in
     let e : length (o .put-number .last .0) ≡ length (a .page .now) = omega arith in
     adds-then (a .page .now) (o .put-number .last .0) (p .put .last .0) (decimalOf (a .n)) (a .behind ∷ []) _ _ _ e (o .put-number .ensures) (p .put .ensures)
 

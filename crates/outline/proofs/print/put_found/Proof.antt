@@ -25,19 +25,19 @@ same-length : tie.Need-same-length
 same-length c = search needs
 
 returns : tie.Need-returns
-returns c = rw (c .before .before .before .before .before .f .given .1) (c .before .before .put-number .ensures)
+returns c = let p = c .before .before in rw (p .before .before .before .f .given .1) (p .put-number .ensures)
 
 same-length-2 : tie.Need-same-length-2
 same-length-2 c = search needs
 
 returns-2 : tie.Need-returns-2
-returns-2 c = rw (c .before .before .before .before .enum-told .given .1) (c .before .before .put .ensures)
+returns-2 c = let p = c .before .before in rw (p .before .before .enum-told .given .1) (p .put .ensures)
 
 same-length-3 : tie.Need-same-length-3
 same-length-3 c = search needs
 
 returns-3 : tie.Need-returns-3
-returns-3 c = rw (c .before .before .before .before .before .f2 .given .1) (c .before .before .put-refused .ensures)
+returns-3 c = let p = c .before .before in rw (p .before .before .before .f2 .given .1) (p .put-refused .ensures)
 
 pub put-found-spec : {M : Type 1} → statement M
 put-found-spec =

@@ -21,12 +21,15 @@ Inv-loop words n nodes level first page₀ at next₀ v₀ left₀ page next v l
 abbrev μ-loop : tie.MeasureT-loop
 μ-loop words n nodes level first page₀ at next₀ v₀ left₀ page next v left = left
 
--- where the call begins, and the page once its first line is put
+-- where the first line is put, where the call begins, and the page once the line is put
+abbrev first-line : tie.After-slice-known2 Inv-loop μ-loop → tie.After-put-node Inv-loop μ-loop
+first-line c = c .before .before
+
 abbrev entry : tie.After-slice-known2 Inv-loop μ-loop → tie.Start Inv-loop μ-loop
-entry c = c .before .before .before .before .before .before
+entry c = first-line c .before .before .before .before
 
 abbrev page : tie.After-slice-known2 Inv-loop μ-loop → List ℕ
-page c = c .before .before .put-node .last .1 .1 .1 .1 .1 .0
+page c = first-line c .put-node .last .1 .1 .1 .1 .1 .0
 
 -- the lines on the level of the call, and those behind its first
 abbrev wanted : tie.Start Inv-loop μ-loop → List ℕ
@@ -37,11 +40,11 @@ behind c = nextLines (c .args .words .now) (c .args .n) (c .args .nodes .now) (c
 
 -- the first line stands on the page, so the lines behind it make the level
 begun : (c : tie.After-slice-known2 Inv-loop μ-loop) (new : List ℕ) (r : ℕ)
-    → Adds (page c) (c .before .before .put-node .result) (behind (entry c)) new r
+    → Adds (page c) (first-line c .put-node .result) (behind (entry c)) new r
     → Adds (entry c .args .page .now) (entry c .args .at) (wanted (entry c)) new r
 begun c new r rest =
     let e : length (page c) ≡ length (entry c .args .page .now) = omega arith in
-    level-whole _ _ _ _ (entry c .args .page .now) (page c) new _ _ _ r e (c .before .before .put-node .ensures) rest
+    level-whole _ _ _ _ (entry c .args .page .now) (page c) new _ _ _ r e (first-line c .put-node .ensures) rest
 
 put-node-requires : tie.Need-put-node-requires Inv-loop μ-loop
 put-node-requires c κs = search needs

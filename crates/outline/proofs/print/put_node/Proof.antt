@@ -38,9 +38,12 @@ same-length c = search needs
 returns : tie.Need-returns
 unfolding nodeLine
 returns c =
+    -- where the parent's cell is put and the parent answered, the close's too, and the two cells before them, from the last to the first
     let z = c .before .before in
-    let y = z .before .before .before .before .before in
-    let x = y .before .before .before .before .before in
+    let p = z .before in
+    let y = p .before .before .before .before in
+    let q = y .before in
+    let x = q .before .before .before .before in
     let w = x .before .before .before .before in
     let a = w .before .before .before .before .args in
     let level = decimalOf (a .level) ++ (32 ∷ []) in
@@ -50,8 +53,8 @@ returns c =
     let e1 : length (w .put-cell .last .0) ≡ length (a .page .now) = omega arith in
     let e2 : length (x .put-cell2 .last .0) ≡ length (w .put-cell .last .0) = omega arith in
     let e3 : length (y .put-end .last .0) ≡ length (x .put-cell2 .last .0) = omega arith in
-    let cd = rw (y .before .close .ensures .0) at (y .put-end .ensures) in
-    let pd = rw (z .before .parent .ensures .0) at (z .put-end2 .ensures) in
+    let cd = rw (q .close .ensures .0) at (y .put-end .ensures) in
+    let pd = rw (p .parent .ensures .0) at (z .put-end2 .ensures) in
     let three = adds-then (x .put-cell2 .last .0) (y .put-end .last .0) (z .put-end2 .last .0) closes above _ _ _ e3 cd pd in
     let two = adds-then (w .put-cell .last .0) (x .put-cell2 .last .0) (z .put-end2 .last .0) opens (closes ++ above) _ _ _ e2 (x .put-cell2 .ensures) three in
     adds-then (a .page .now) (w .put-cell .last .0) (z .put-end2 .last .0) level (opens ++ (closes ++ above)) _ _ _ e1 (w .put-cell .ensures) two

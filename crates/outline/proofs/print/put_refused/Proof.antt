@@ -29,11 +29,13 @@ same-length c = search needs
 returns : tie.Need-returns
 unfolding refusedText
 returns c =
+    -- where the number is put and answered, and where the word before it is put
     let p = c .before .before in
-    let o = p .before .before .before .before .before in
+    let n = p .before in
+    let o = n .before .before .before .before in
     let a = o .before .before .before .before .args in
     let e : length (o .put-text .last .0) ≡ length (a .page .now) = omega arith in
-    let d = rw (p .before .number .ensures) at (p .put-number .ensures) in
+    let d = rw (n .number .ensures) at (p .put-number .ensures) in
     adds-then (a .page .now) (o .put-text .last .0) (p .put-number .last .0) (114 ∷ 101 ∷ 102 ∷ 117 ∷ 115 ∷ 101 ∷ 100 ∷ 32 ∷ []) (decimalOf (numberOf (a .k))) _ _ _ e (o .put-text .ensures) d
 
 pub put-refused-spec : {M : Type 1} → statement M

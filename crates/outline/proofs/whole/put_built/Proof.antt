@@ -8,6 +8,10 @@ use borrow.Author.Needs.{needs}
 use Rattle.outline.proofs.whole.put_built.Statement.{statement}
 use Rattle.outline.proofs.whole.put_built.Tie as tie
 
+-- the entry, from where the nodes are built
+abbrev entry : tie.After-build → tie.Start
+entry b = b .before .before .before .before
+
 slice-aggregate-build : tie.Need-slice-aggregate-build
 slice-aggregate-build c = search needs
 
@@ -34,9 +38,11 @@ same-length c = search needs
 
 returns : tie.Need-returns
 returns c =
+    -- where the tree is put, where the build is told to be whole, and where the nodes are built
     let p = c .before .before in
-    let b = p .before .before .before .before .before .before .before in
-    let i = b .before .before .before .before in
+    let t = p .before .before .before .before in
+    let b = t .before .before .before in
+    let i = entry b in
     let w : length (i .args .words .now) ≡ 64 = omega arith in
     let q = built-lines (i .args .words .now) (i .args .n) w (omega arith) (i .pre .1) in
     let h = rw (b .build .ensures .1) at (p .put-tree .ensures) in
@@ -47,9 +53,11 @@ same-length-2 c = search needs
 
 returns-2 : tie.Need-returns-2
 returns-2 c =
-    let k = c .before .before .before .before .before in
+    -- where a refusal is put, where it is known, and where the nodes are built
+    let r = c .before .before in
+    let k = r .before .before .before in
     let b = k .before .before .before in
-    let a = b .before .before .before .before .args in
+    let a = entry b .args in
     let w : length (a .words .now) ≡ 64 = omega arith in
     absurd (not-refused (a .words .now) (a .n) _ w (omega arith) (sym (ap paperBuilt (k .k .given .1)) ∙ b .build .ensures .0))
 
