@@ -23,9 +23,10 @@ same-length c = search needs
 
 returns : tie.Need-returns
 returns c =
-    let d = c .before .before .before .before .before .decimal .ensures in
+    let p = c .before .before in
+    let d = p .before .before .before .decimal .ensures in
     let e = d .1 .1 ∙ decimal-is _ _ (omega arith) (d .1 .0) in
-    rw e at (c .before .before .put-text .ensures)
+    rw e at (p .put-text .ensures)
 
 pub put-number-spec : {M : Type 1} → statement M
 put-number-spec =
