@@ -27,12 +27,14 @@ returns c =
 
 returns-2 : tie.Need-returns-2
 returns-2 c =
-    let b = c .before .before .before .before .before in
-    let s = b .before .before .before .args .bytes .now in
-    let ws = b .before .before .before .args .words .now in
+    let n = c .before .before .before in
+    let b = n .before .before in
+    let a = b .before .before .before .args in
+    let s = a .bytes .now in
+    let ws = a .words .now in
     let e = b .read-line .ensures .1 in
     let w : 64 ≡ length (lineWords s ws) = rw e at (c .admit-tree .ensures .1) in
-    (rw e at (c .admit-tree .ensures .0) ∙ input-tree s ws _ w (sym (ap paperRead (c .before .before .before .n .given .1)) ∙ b .read-line .ensures .0), e)
+    (rw e at (c .admit-tree .ensures .0) ∙ input-tree s ws _ w (sym (ap paperRead (n .n .given .1)) ∙ b .read-line .ensures .0), e)
 
 pub read-tree-spec : {M : Type 1} → statement M
 read-tree-spec =
