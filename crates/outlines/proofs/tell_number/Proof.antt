@@ -43,8 +43,9 @@ slice-aggregate-say c = search needs
 
 cast-say : tie.Need-cast-say
 cast-say c =
-    let f = c .before .before .before .before .before .fits .x in
-    rw (toZ-ofZ w64 _ f) (upward _ f (rw (toZ-ofZ w64 _ f) at (c .before .if4 .left)))
+    let e = c .before in
+    let f = e .before .before .before .before .fits .x in
+    rw (toZ-ofZ w64 _ f) (upward _ f (rw (toZ-ofZ w64 _ f) at (e .if4 .left)))
 
 say-requires : tie.Need-say-requires
 say-requires c κs = search needs
