@@ -25,11 +25,11 @@ use Rattle.row.specs.Gates.{through}
 use Rattle.listing.specs.declared.view.Children.{Children}
 use Rattle.listing.specs.declared.view.Made.{Made}
 use Rattle.listing.specs.declared.view.Step.{Step}
-use Rattle.listing.specs.declared.whole.Listed.{Listed}
-use Rattle.listing.specs.declared.whole.Listed.the-variants.{Count, Refused as RefusedListed}
 use Rattle.listing.specs.Listing.{Listing, Outcome}
 use Rattle.listing.specs.Paper.{paperListing, paperMade, paperStep}
-use Rattle.listing.specs.Whole.{paperListed}
+use Rattle.whole.specs.declared.Listed.{Listed}
+use Rattle.whole.specs.declared.Listed.the-variants.{Count, Refused as RefusedListed}
+use Rattle.whole.specs.Whole.{paperListed}
 use Rattle.demands.specs.Worth.{One}
 
 -- ---- the way back

@@ -42,8 +42,8 @@ use Rattle.level.specs.Levels as level
 use Rattle.ends.specs.Ends as ends
 use Rattle.ends.specs.Ends.{inRow, rootStart, levelAnswer, rightmostAnswer}
 use Rattle.ends.proofs.Rightmost.{root-there}
-use Rattle.listing.specs.Listing.{startCall, nextCall, sought, after}
-use Rattle.listing.specs.Whole.{answers, countOf, leftOf}
+use Rattle.seek.specs.Sought.{startCall, nextCall, sought, after}
+use Rattle.whole.specs.Whole.{answers, countOf, leftOf}
 use Rattle.demands.specs.Questions.{Question, fwdSearch, bwdSearch, closeOf, openOf, enclose, root, parent, firstChild, lastChild, nextSibling, previousSibling, isLeaf, isAncestor, levelAncestor, levelNext, levelPrev, levelLeftmost, levelRightmost, promised}
 use Rattle.demands.specs.First.{kind}
 use Rattle.demands.proofs.Unread.{Alike, walk-same, searches-same}

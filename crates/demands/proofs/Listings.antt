@@ -1,24 +1,27 @@
 -- A child listing and its steps name what the calls that it goes by name, one after another.
 --   held-next: what a step leaves held; named: the steps from an answer on
 --   first-sought: what a making seeks; made-named, steps-named: a listing that is made, and its steps
+--   answers-step: what `list` writes is what the steps answer
 -- Assumes nothing.
 use mathlib.Core.Path.{_≡_, refl, sym, ap, _∙_}
 use mathlib.Core.Bool.{Bool, true, false}
 use mathlib.Core.List.{List, [], _∷_}
-use Prim.Native.Nat.{ℕ, zero, suc}
+use Prim.Native.Nat.{ℕ, zero, suc, _<_}
 use native.Mathlib.Omega.{arith}
 use lib.IntN.{ℤ}
-use lib.ListN.{length}
+use lib.ListN.{length, getD}
 use denote.Ref.{RefT, now}
-use Rattle.row.specs.Answer.{Answer, at}
+use Rattle.row.specs.Answer.{Answer, at, nothing, refused}
 use Rattle.row.proofs.Gates.{row-open}
 use Rattle.layout.specs.Layout.{Fine}
 use Rattle.layout.proofs.Admitted.{fine-gate}
 use Rattle.handle.specs.Bare.{handleAnswer}
 use Rattle.calls.specs.Handles.{nodeAnswer}
-use Rattle.listing.specs.Listing.{Listing, sought, making, begun, after, made}
+use Rattle.seek.specs.Sought.{sought, making, begun, after}
+use Rattle.listing.specs.Listing.{Listing, holding, made}
 use Rattle.listing.specs.Steps.{answerAt, nth}
-use Rattle.listing.proofs.Sequence.{ended}
+use Rattle.listing.proofs.Sequence.{next, ended}
+use Rattle.whole.specs.Whole.{answers}
 use Rattle.demands.specs.Questions.{Question, firstChild, lastChild, nextSibling, previousSibling, promised}
 use Rattle.demands.specs.Listing.{Names}
 
@@ -74,3 +77,13 @@ module _ (rising : Bool) (ws : RefT (List ℕ)) (n : ℕ) (s : RefT (List ℤ)) 
       steps-named k =
           ap (λ (a : Answer). answerAt k (with a)) (ap begun (first-sought rising) ∙ begun-named l (starting rising v) e .1)
           ∙ named l k (starting rising v) e
+
+-- what `list` writes is what the steps answer, in their order
+pub answers-step : (l : Listing) (c k : ℕ) (a : Answer) → k < length (answers (next l) c a)
+    → getD (answers (next l) c a) k nothing ≡ answerAt k (holding l a)
+unfolding answers answerAt
+answers-step l zero k a h = absurd (omega arith)
+answers-step l (suc c) zero a h = refl
+answers-step l (suc c) (suc k) (at v) h = answers-step l c k (next l (at v)) (omega arith)
+answers-step l (suc c) (suc k) nothing h = absurd (omega arith)
+answers-step l (suc c) (suc k) (refused m) h = answers-step l c k (next l (refused m)) (omega arith)

@@ -23,7 +23,8 @@ use Rattle.layout.specs.Layout.{width, count, blockGate, roomGate, nodesGate}
 use Rattle.node.specs.Nodes.{nodeAt, written}
 use Rattle.mmt.specs.Build.{builtNodes}
 use Rattle.node.proofs.Written.{written-length}
-use Rattle.listing.specs.Listing.{Listing, sought, making, begun, after}
+use Rattle.seek.specs.Sought.{sought, making, begun, after}
+use Rattle.listing.specs.Listing.{Listing}
 use Rattle.listing.specs.Steps.{answerAt}
 use Rattle.demands.specs.First.{buildAnswer}
 use Rattle.demands.specs.Surplus.{SameRow, Roomy, SameNodes, SameListing, Surplus}

@@ -9,7 +9,7 @@ use Rattle.tree.specs.OneTree.{oneTreeAnswer}
 use Rattle.mmt.specs.Build.{builtNodes}
 use Rattle.mmt.specs.Check.{asBuiltAnswer}
 use Rattle.listing.specs.Listing.{made, stepped}
-use Rattle.listing.specs.Whole.{countOf, leftOf}
+use Rattle.whole.specs.Whole.{countOf, leftOf}
 use Rattle.demands.specs.Questions.{promised}
 use Rattle.demands.specs.First.{buildAnswer, readAnswer}
 use Rattle.demands.specs.Worth.{Itself, Worth}

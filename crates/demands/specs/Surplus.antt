@@ -18,7 +18,7 @@ use Rattle.mmt.specs.Build.{builtNodes}
 use Rattle.mmt.specs.Check.{asBuiltAnswer}
 use Rattle.listing.specs.Listing.{made}
 use Rattle.listing.specs.Steps.{answerAt}
-use Rattle.listing.specs.Whole.{countOf, leftOf}
+use Rattle.whole.specs.Whole.{countOf, leftOf}
 use Rattle.demands.specs.Questions.{Question, promised}
 use Rattle.demands.specs.First.{kind, buildAnswer}
 

@@ -18,7 +18,7 @@ use Rattle.mmt.specs.Build.{builtNodes}
 use Rattle.mmt.specs.Check.{asBuiltAnswer}
 use Rattle.listing.specs.Listing.{Listing, made, stepped}
 use Rattle.listing.specs.Paper.{paperMade, paperStep}
-use Rattle.listing.specs.Whole.{paperListed, countOf, leftOf}
+use Rattle.whole.specs.Whole.{paperListed, countOf, leftOf}
 use Rattle.demands.specs.Questions.{Question, promised}
 use Rattle.demands.specs.First.{buildAnswer, readAnswer}
 

@@ -29,13 +29,14 @@ use denote.Struct.Values.{Values}
 use denote.Struct.Laws as LL
 use denote.Struct.Rest.{all-own, own-open, own-shut}
 use Rattle.row.specs.Answer.{Answer}
-use Rattle.listing.specs.declared.seek.Start.{Start}
+use Rattle.seek.specs.declared.Start.{Start}
+use Rattle.seek.specs.Sought.{sought, Starts}
+use Rattle.seek.proofs.Start as S
+use Rattle.seek.proofs.Start.Laws as S′
 use Rattle.listing.specs.declared.view.Children.{Children}
 use Rattle.listing.specs.declared.view.Made.{Made}
-use Rattle.listing.specs.Listing.{sought, made, Starts}
+use Rattle.listing.specs.Listing.{made}
 use Rattle.listing.specs.Paper.{paperMade}
-use Rattle.listing.proofs.seek.Start as S
-use Rattle.listing.proofs.seek.Start.Laws as S′
 use Rattle.listing.proofs.view.Children as T
 use Rattle.listing.proofs.view.Children.Laws as T′
 use Rattle.listing.proofs.view.Made as R

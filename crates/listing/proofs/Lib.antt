@@ -1,9 +1,4 @@
 pub mod Rules
 pub mod Held
 pub mod Making
-pub mod Sought
-pub mod Below
-pub mod Written
-pub mod Enough
-pub mod Opened
 pub mod Sequence

@@ -38,18 +38,18 @@ use denote.Triple.Spec.{Meets, tripleOf}
 use denote.Triple.Walked.{Stays, stay-none, stay-none-slice, walkOf, goes-none, goes-none-slice, ends-at, walked, walk-meets}
 use denote.Exit.{yes}
 use denote.Triple.Clauses.{Clauses, AtExit, closing, ensured, lasts}
-use Rattle.listing.specs.declared.seek.Start.{Start}
-use Rattle.listing.specs.Listing.{Starts}
+use Rattle.seek.specs.declared.Start.{Start}
+use Rattle.seek.specs.Sought.{Starts}
+use Rattle.seek.proofs.Start as S
+use Rattle.seek.proofs.Start.Laws as S′
+use Rattle.seek.proofs.first as callee
 use Rattle.listing.proofs.Rules.{copied, field-of, sets, freed, both, halves, token, tokens, halved, answered}
 use Rattle.listing.proofs.Held.{Args, kinds, machine, Owns, Passed, signed, listing, result, asked}
 use Rattle.listing.proofs.Held.{listing-is, made-is, twice, made-own}
-use Rattle.listing.proofs.seek.Start as S
-use Rattle.listing.proofs.seek.Start.Laws as S′
 use Rattle.listing.proofs.view.Children as T
 use Rattle.listing.proofs.view.Children.Laws as T′
 use Rattle.listing.proofs.view.Made as R
 use Rattle.listing.proofs.view.Made.Laws as R′
-use Rattle.listing.proofs.seek.first as callee
 use Rattle.listing.proofs.iter.children as children
 
 -- the way, as the code writes it

@@ -1,6 +1,5 @@
 -- The whole sequence of a listing's steps.
 --   answer-next: what a step answers, by what the one before it answered
---   answers-step: what `list` writes is what the steps answer
 --   ended, refused-ends: after nothing, and after a refusal, nothing for ever
 --   made-ends: over any nodes, nothing from step n on
 --   made-built, answers-built: over nodes as built, on a handle, a listing is made, and its steps answer the children by definition
@@ -14,7 +13,7 @@ use Prim.Native.Nat.{ℕ, zero, suc, _-_, _≤_, _<_}
 use native.Mathlib.Omega.{arith}
 use native.Mathlib.Decide.{decLt}
 use lib.IntN.{ℤ}
-use lib.ListN.{length, getD}
+use lib.ListN.{length}
 use denote.Ref.{RefT, now}
 use Rattle.row.specs.declared.gate.Gate.{Gate}
 use Rattle.row.specs.declared.gate.Gate.the-variants.{Open, Shut}
@@ -26,15 +25,15 @@ use Rattle.node.specs.Nodes.{AsBuilt}
 use Rattle.calls.specs.Composed.{Searches, defined, onward}
 use Rattle.calls.specs.Handles.{nodeAnswer}
 use Rattle.calls.proofs.Defined.{call-defined}
+use Rattle.seek.specs.Sought.{startCall, nextCall, sought, making, begun, after}
+use Rattle.seek.proofs.Below.{Only, only-more, left, Within, sought-within, after-within}
+use Rattle.seek.proofs.Opened.{Handle, start-handle, next-handle}
 use Rattle.listing.specs.declared.view.Children.{Children}
 use Rattle.listing.specs.declared.view.Made.{Made}
 use Rattle.listing.specs.declared.view.Step.{Step}
-use Rattle.listing.specs.Listing.{Listing, Outcome, startCall, nextCall, sought, making, begun, after, holding, made, stepped}
+use Rattle.listing.specs.Listing.{Listing, Outcome, made, stepped}
 use Rattle.listing.specs.Paper.{paperListing, paperMade}
 use Rattle.listing.specs.Steps.{nth, answerAt, childAt, Stepping}
-use Rattle.listing.specs.Whole.{answers}
-use Rattle.listing.proofs.Below.{Only, only-more, left, Within, sought-within, after-within}
-use Rattle.listing.proofs.Opened.{Handle, start-handle, next-handle}
 
 -- ---- any listing
 -- what it holds after an answer
@@ -60,16 +59,6 @@ module _ (l : Listing) where
 
   pub refused-ends : (j k m : ℕ) → k < j → answerAt k l ≡ refused m → answerAt j l ≡ nothing
   refused-ends j k m h e = ended j (suc k) (omega arith) (answer-next k l ∙ ap (next l) e)
-
--- what `list` writes is what the steps answer, in their order
-pub answers-step : (l : Listing) (c k : ℕ) (a : Answer) → k < length (answers (next l) c a)
-    → getD (answers (next l) c a) k nothing ≡ answerAt k (holding l a)
-unfolding answers answerAt
-answers-step l zero k a h = absurd (omega arith)
-answers-step l (suc c) zero a h = refl
-answers-step l (suc c) (suc k) (at v) h = answers-step l c k (next l (at v)) (omega arith)
-answers-step l (suc c) (suc k) nothing h = absurd (omega arith)
-answers-step l (suc c) (suc k) (refused m) h = answers-step l c k (next l (refused m)) (omega arith)
 
 -- ---- as it was made, over any nodes
 module _ (rising : Bool) (ws : RefT (List ℕ)) (n : ℕ) (s : RefT (List ℤ)) (B v : ℕ) where

@@ -1,4 +1,3 @@
 pub mod Listing
 pub mod Paper
 pub mod Steps
-pub mod Whole

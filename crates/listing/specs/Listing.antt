@@ -1,50 +1,12 @@
--- A listing of children on paper, in document 01's words, over the public answers of the calls that it goes by.
+-- A listing of children on paper, in document 01's words: what it keeps, and what a making and a step of it give.
 -- Assumes nothing.
-use mathlib.Core.Path.{_≡_}
-use mathlib.Core.Bool.{Bool, true, false}
+use mathlib.Core.Bool.{Bool}
 use mathlib.Core.List.{List}
 use Prim.Native.Nat.{ℕ}
 use lib.IntN.{ℤ}
 use denote.Ref.{RefT, now}
-use Rattle.row.specs.Answer.{Answer, at, nothing, refused, paperFound}
-use Rattle.row.specs.Gates.{through}
-use Rattle.handle.specs.Bare.{firstChild}
-use Rattle.calls.specs.Composed.{Searches}
-use Rattle.calls.specs.Handles.{nodeAnswer}
-use Rattle.sibling.specs.Siblings.{lastChild, nextSibling, previousSibling}
-use Rattle.listing.specs.declared.seek.Start.{Start}
-
--- children starts at first_child, rev_children at last_child
-abbrev pub startCall : Bool → List ℕ → ℕ → Searches → ℕ → Answer
-startCall true ws n s = firstChild ws n
-startCall false ws n s = lastChild ws n s
-
--- children goes by next_sibling, rev_children by previous_sibling
-abbrev pub nextCall : Bool → List ℕ → ℕ → Searches → ℕ → Answer
-nextCall true = nextSibling
-nextCall false = previousSibling
-
--- what the making seeks: refusals 1 to 5 in their order, then the first handle
-unfoldable pub sought : Bool → List ℕ → ℕ → List ℤ → ℕ → ℕ → Answer
-sought rising ws n s B v = nodeAnswer (startCall rising) ws n s B v
-
--- a refusal met there is the making's; else it answers 0, as a build does that is done
-abbrev pub making : Answer → Answer
-making (at v) = at 0
-making nothing = at 0
-making (refused k) = refused k
-
--- and the listing holds what was found; after a refusal it has ended
-abbrev pub begun : Answer → Answer
-begun (at v) = at v
-begun nothing = nothing
-begun (refused k) = nothing
-
--- what is held once an answer is given: after a handle its sibling's answer, after a refusal or the end nothing
-abbrev pub after : Bool → List ℕ → ℕ → List ℤ → ℕ → Answer → Answer
-after rising ws n s B (at v) = nodeAnswer (nextCall rising) ws n s B v
-after rising ws n s B nothing = nothing
-after rising ws n s B (refused k) = nothing
+use Rattle.row.specs.Answer.{Answer}
+use Rattle.seek.specs.Sought.{sought, making, begun, after}
 
 -- a listing: the borrowed view of row and nodes, the way it goes, and what its next step answers
 pub record Listing : Type 0 where
@@ -74,8 +36,3 @@ made rising ws n s B v = record {
 -- a step answers the handle that the listing holds and seeks the next
 abbrev pub stepped : Listing → Outcome
 stepped l = record { answer = l .held; listing = holding l (after (l .rising) (now (l .words)) (l .n) (now (l .nodes)) (l .block) (l .held)) }
-
--- what is sought is a, and s is what the listing starts with
-pub record Starts (a : Answer) (s : Start) : Type 0 where
-  pub answer : through (s .gate) (at 0) ≡ making a
-  pub held : paperFound (s .held) ≡ begun a

@@ -6,9 +6,10 @@ use mathlib.Core.List.{List, [], _∷_}
 use Prim.Native.Nat.{ℕ, zero, suc}
 use Rattle.row.specs.Answer.{Answer, at, nothing}
 use Rattle.calls.specs.Composed.{defined, onward}
+use Rattle.seek.specs.Sought.{startCall, nextCall}
 use Rattle.listing.specs.declared.view.Children.{Children}
 use Rattle.listing.specs.declared.view.Step.{Step}
-use Rattle.listing.specs.Listing.{Listing, startCall, nextCall, stepped}
+use Rattle.listing.specs.Listing.{Listing, stepped}
 use Rattle.listing.specs.Paper.{paperListing, paperStep}
 
 -- what step k answers, counted from 0

@@ -6,12 +6,12 @@ ghost use mathlib.Core.Path.{_≡_};
 ghost use mathlib.Core.Bool.{true, false};
 ghost use Rattle.listing.specs.Listing.{made, stepped};
 ghost use Rattle.listing.specs.Paper.{paperListing, paperMade, paperStep};
-use crate::seek::after;
-use crate::seek::first;
-use crate::seek::last;
 use crate::view::Children;
 use crate::view::Made;
 use crate::view::Step;
+use seek::after;
+use seek::first;
+use seek::last;
 
 // The children of the node v, from the first to the last.
 pub fn children<'a>(

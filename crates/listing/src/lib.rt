@@ -1,11 +1,9 @@
 // The children of a node, listed one at a time, from the first or from the last.
 //
 // A listing keeps a borrowed view of the row and of the nodes beside the handle that its next step answers. Its functions are
-// thin: what they do stands in `seek`, on slices and numbers. `list` writes a whole listing into a lent slice.
+// thin: what they do stands in the crate `seek`, on slices and numbers. Here are the walks that prove them, and the laws of their steps.
 mod iter;
-mod seek;
 mod view;
-mod whole;
 
 pub use iter::children;
 pub use iter::rev_children;
@@ -13,5 +11,3 @@ pub use iter::step;
 pub use view::Children;
 pub use view::Made;
 pub use view::Step;
-pub use whole::Listed;
-pub use whole::list;

@@ -14,12 +14,12 @@ use lib.IntN.{ℤ}
 use lib.ListN.{length, take, drop, length-append, length-map}
 use lib.Seq.{take-at}
 use Rattle.row.specs.Answer.{Answer, at, nothing, refused}
-use Rattle.listing.specs.Listing.{sought}
-use Rattle.listing.specs.Whole.{overlaid, unlessRefused, answersOf, countOf, leftOf}
-use Rattle.listing.proofs.Enough.{count-small, room-cut}
 use Rattle.wire.specs.Answer.{wireOf}
 use Rattle.wire.specs.Limit.{wireBits}
 use Rattle.wire.specs.Bytes.{numbersOver}
+use Rattle.seek.specs.Sought.{sought}
+use Rattle.whole.specs.Whole.{overlaid, unlessRefused, answersOf, countOf, leftOf}
+use Rattle.whole.proofs.Enough.{count-small, room-cut}
 use Rattle.lists.specs.Listings.{listedBytes}
 
 -- a bit count that crosses has room for all its answers, or is refused

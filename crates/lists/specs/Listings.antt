@@ -5,12 +5,12 @@ use mathlib.Core.List.{List, map}
 use Prim.Native.Nat.{ℕ, _/_}
 use lib.IntN.{ℤ}
 use lib.ListN.{length}
-use Rattle.listing.specs.Listing.{sought}
-use Rattle.listing.specs.Whole.{unlessRefused, answersOf, countOf}
 use Rattle.wire.specs.Answer.{wireOf}
 use Rattle.wire.specs.Limit.{wireBits}
 use Rattle.wire.specs.Bytes.{numbersOver}
 use Rattle.wire.specs.Lent.{rowWords, nodeNumbers}
+use Rattle.seek.specs.Sought.{sought}
+use Rattle.whole.specs.Whole.{unlessRefused, answersOf, countOf}
 
 -- the bytes out after a listing with room for c answers: theirs, in order, followed by what stood past them; a refused making leaves all
 unfoldable pub listedBytes : Bool → List ℕ → ℕ → List ℤ → ℕ → ℕ → ℕ → List ℕ → List ℕ

@@ -5,11 +5,11 @@
 ghost use mathlib.Core.Path.{_≡_};
 ghost use Prim.Native.Nat.{_*_, _/_, _≤_};
 ghost use lib.ListN.{length};
-ghost use Rattle.listing.specs.Whole.{countOf};
 ghost use Rattle.wire.specs.Answer.{wireOf};
 ghost use Rattle.wire.specs.Limit.{wireBits};
+ghost use Rattle.whole.specs.Whole.{countOf};
 ghost use Rattle.lists.specs.Listings.{listedBytes, listWire, listLeft};
-use listing::Listed;
+use whole::Listed;
 
 // Lists in answers, then writes what was answered over the front of out.
 fn put_listing(
@@ -30,7 +30,7 @@ fn put_listing(
         ≡ listedBytes rising (now (words .entry)) n (now (nodes .entry)) block node (length (now (answers .entry))) (now (out .entry))
         ⌝ }
 {
-    match listing::list(words, n, nodes, block, rising, node, answers) {
+    match whole::list(words, n, nodes, block, rising, node, answers) {
         Listed::Refused(k) => wire::refused(k),
         Listed::Count(c) => {
             wire::write_numbers(&answers[..c], out);

@@ -2,9 +2,9 @@
 // nothing or until out is full; what stood past them stays. A refused making leaves all numbers.
 ghost use mathlib.Core.Path.{_≡_};
 ghost use lib.ListN.{length};
-ghost use Rattle.listing.specs.Whole.{countOf, leftOf};
 ghost use Rattle.wire.specs.Answer.{wireOf};
-use listing::Listed;
+ghost use Rattle.whole.specs.Whole.{countOf, leftOf};
+use whole::Listed;
 
 // The children of a node, either way: how many answers are written.
 pub fn to_numbers(
@@ -19,7 +19,7 @@ pub fn to_numbers(
     ensures { λ a. ⌜ a ≡ wireOf (countOf rising (now (words .entry)) bits (now (nodes .entry)) block node (length (now (out .entry)))) ⌝ }
     ensures { λ a. ⌜ now (out .exit) ≡ leftOf rising (now (words .entry)) bits (now (nodes .entry)) block node (now (out .entry)) ⌝ }
 {
-    match listing::list(
+    match whole::list(
         words,
         bits as usize,
         nodes,

@@ -2,9 +2,9 @@
 // 01's row T and of larger trees; handles that are none; and foreign nodes that lead a listing to a closing position. What it
 // writes is compared with the file stdout.
 use libc::STDOUT_FILENO;
-use listing::Listed;
 use row::Built;
 use row::Found;
+use whole::Listed;
 
 fn say(label: &[u8], n: u64) {
     io::write_all(STDOUT_FILENO, label);
@@ -121,7 +121,7 @@ fn answers(out: &[i64], count: usize) {
 fn children(words: &[u64], n: usize, nodes: &[i64], block: usize, rising: bool, v: usize) {
     let mut out = [0i64; 70];
     say(b"children of", v as u64);
-    match listing::list(words, n, nodes, block, rising, v, &mut out) {
+    match whole::list(words, n, nodes, block, rising, v, &mut out) {
         Listed::Count(c) => answers(&out, c),
         Listed::Refused(k) => {
             say(b" refused", row::number(k));

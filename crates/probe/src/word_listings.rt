@@ -4,8 +4,8 @@
 ghost use mathlib.Core.Path.{_≡_};
 ghost use mathlib.Core.Bool.{true, false};
 ghost use lib.ListN.{length};
-ghost use Rattle.listing.specs.Whole.{countOf, leftOf};
 ghost use Rattle.wire.specs.Answer.{wireOf};
+ghost use Rattle.whole.specs.Whole.{countOf, leftOf};
 
 // The children of a node, from the first to the last.
 #[no_mangle]

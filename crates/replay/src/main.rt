@@ -7,13 +7,13 @@
 // block's edge (8, 16, 80), at a word's (64), just past a block's (9, 17, 25, 82) and just past a word's (130, 258).
 use libc::STDIN_FILENO;
 use libc::STDOUT_FILENO;
-use listing::Listed;
 use row::Built;
 use row::Found;
 use row::Gate;
 use row::Read;
 use row::Refusal;
 use row::Told;
+use whole::Listed;
 
 fn say(text: &[u8]) {
     io::write_all(STDOUT_FILENO, text);
@@ -103,7 +103,7 @@ fn numbers(out: &[i64], count: usize) {
 // No node has more than 40 children, so that the nothing at a listing's end has room.
 fn children(words: &[u64], n: usize, nodes: &[i64], block: usize, rising: bool, v: usize) {
     let mut out = [0i64; 64];
-    match listing::list(words, n, nodes, block, rising, v, &mut out) {
+    match whole::list(words, n, nodes, block, rising, v, &mut out) {
         Listed::Count(c) => numbers(&out, c),
         Listed::Refused(k) => refused(k),
     }

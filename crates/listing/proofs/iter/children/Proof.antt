@@ -5,11 +5,11 @@ use contract.Monad.{factI}
 use contract.Running.{givenOf}
 use denote.Triple.Clauses.{closing}
 use denote.Triple.Spec.{tripleOf}
+use Rattle.seek.proofs.first.Symbol.{routine, name as #seek·first}
+use Rattle.seek.proofs.first.Met.{met}
 use Rattle.listing.proofs.Rules.{rests-on}
 use Rattle.listing.proofs.Held.{made-says}
 use Rattle.listing.proofs.Making.{Seeks, makes}
-use Rattle.listing.proofs.seek.first.Symbol.{routine, name as #listing·seek·first}
-use Rattle.listing.proofs.seek.first.Met.{met}
 use Rattle.listing.proofs.iter.children.Key.{name as #listing·iter·children}
 use Rattle.listing.proofs.iter.children.Statement.{statement}
 use Rattle.listing.proofs.iter.children as children
@@ -19,6 +19,6 @@ pub children-spec : {M : Type 1} → statement M
 unfolding code.routine
 children-spec 𝓤 H 𝓜 𝓖 𝓡 =
     let c = children.clauses 𝓤 H (𝓖 .A) (𝓜 .mem) (𝓡 .run) in
-    rests-on 𝓤 H 𝓜 𝓡 code.env #listing·iter·children #listing·seek·first code.function routine (Seeks 𝓤 H (𝓖 .A) true)
-    (tripleOf 𝓤 H (𝓖 .A) children.signature (closing 𝓤 H (𝓖 .A) children.ended c)) (code.unfolded 𝓤 H 𝓜 𝓡) code.calls-listing·seek·first
-    (makes 𝓤 H (𝓖 .A) (givenOf 𝓤 H 𝓜 𝓖) true #listing·seek·first c (λ κs x s g e h. factI 𝓤 _ (emp 𝓤) (made-says true x s h))) (met 𝓤 H 𝓜 𝓖 𝓡)
+    rests-on 𝓤 H 𝓜 𝓡 code.env #listing·iter·children #seek·first code.function routine (Seeks 𝓤 H (𝓖 .A) true)
+    (tripleOf 𝓤 H (𝓖 .A) children.signature (closing 𝓤 H (𝓖 .A) children.ended c)) (code.unfolded 𝓤 H 𝓜 𝓡) code.calls-seek·first
+    (makes 𝓤 H (𝓖 .A) (givenOf 𝓤 H 𝓜 𝓖) true #seek·first c (λ κs x s g e h. factI 𝓤 _ (emp 𝓤) (made-says true x s h))) (met 𝓤 H 𝓜 𝓖 𝓡)

@@ -5,11 +5,11 @@ use contract.Monad.{factI}
 use contract.Running.{givenOf}
 use denote.Triple.Clauses.{closing}
 use denote.Triple.Spec.{tripleOf}
+use Rattle.seek.proofs.last.Symbol.{routine, name as #seek·last}
+use Rattle.seek.proofs.last.Met.{met}
 use Rattle.listing.proofs.Rules.{rests-on}
 use Rattle.listing.proofs.Held.{made-says}
 use Rattle.listing.proofs.Making.{Seeks, makes}
-use Rattle.listing.proofs.seek.last.Symbol.{routine, name as #listing·seek·last}
-use Rattle.listing.proofs.seek.last.Met.{met}
 use Rattle.listing.proofs.iter.rev_children.Key.{name as #listing·iter·rev-children}
 use Rattle.listing.proofs.iter.rev_children.Statement.{statement}
 use Rattle.listing.proofs.iter.rev_children as children
@@ -19,6 +19,6 @@ pub rev-children-spec : {M : Type 1} → statement M
 unfolding code.routine
 rev-children-spec 𝓤 H 𝓜 𝓖 𝓡 =
     let c = children.clauses 𝓤 H (𝓖 .A) (𝓜 .mem) (𝓡 .run) in
-    rests-on 𝓤 H 𝓜 𝓡 code.env #listing·iter·rev-children #listing·seek·last code.function routine (Seeks 𝓤 H (𝓖 .A) false)
-    (tripleOf 𝓤 H (𝓖 .A) children.signature (closing 𝓤 H (𝓖 .A) children.ended c)) (code.unfolded 𝓤 H 𝓜 𝓡) code.calls-listing·seek·last
-    (makes 𝓤 H (𝓖 .A) (givenOf 𝓤 H 𝓜 𝓖) false #listing·seek·last c (λ κs x s g e h. factI 𝓤 _ (emp 𝓤) (made-says false x s h))) (met 𝓤 H 𝓜 𝓖 𝓡)
+    rests-on 𝓤 H 𝓜 𝓡 code.env #listing·iter·rev-children #seek·last code.function routine (Seeks 𝓤 H (𝓖 .A) false)
+    (tripleOf 𝓤 H (𝓖 .A) children.signature (closing 𝓤 H (𝓖 .A) children.ended c)) (code.unfolded 𝓤 H 𝓜 𝓡) code.calls-seek·last
+    (makes 𝓤 H (𝓖 .A) (givenOf 𝓤 H 𝓜 𝓖) false #seek·last c (λ κs x s g e h. factI 𝓤 _ (emp 𝓤) (made-says false x s h))) (met 𝓤 H 𝓜 𝓖 𝓡)

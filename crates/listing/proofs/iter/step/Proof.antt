@@ -44,20 +44,20 @@ use Rattle.row.specs.declared.answer.Found.{Found}
 use Rattle.row.specs.Answer.{Answer, paperFound}
 use Rattle.row.proofs.answer.Found as F
 use Rattle.row.proofs.answer.Found.Laws as F′
+use Rattle.seek.specs.Sought as spec
+use Rattle.seek.proofs.after as callee
+use Rattle.seek.proofs.after.Symbol as callee-def
+use Rattle.seek.proofs.after.Symbol.{name as #seek·after}
+use Rattle.seek.proofs.after.Met as callee-thm
 use Rattle.listing.specs.declared.view.Children.{Children}
 use Rattle.listing.specs.declared.view.Step.{Step}
 use Rattle.listing.specs.Listing.{holding}
-use Rattle.listing.specs.Listing as spec
 use Rattle.listing.specs.Paper.{paperListing}
 use Rattle.listing.proofs.Rules.{copied, field-of, sets, freed, both, halves, token, tokens, halved, answered, rests-on}
 use Rattle.listing.proofs.view.Children as T
 use Rattle.listing.proofs.view.Children.Laws as T′
 use Rattle.listing.proofs.view.Step as R
 use Rattle.listing.proofs.view.Step.Laws as R′
-use Rattle.listing.proofs.seek.after as callee
-use Rattle.listing.proofs.seek.after.Symbol as callee-def
-use Rattle.listing.proofs.seek.after.Symbol.{name as #listing·seek·after}
-use Rattle.listing.proofs.seek.after.Met as callee-thm
 use Rattle.listing.proofs.iter.step.Key.{name as #listing·iter·step}
 use Rattle.listing.proofs.iter.step as step
 use Rattle.listing.proofs.iter.step.Statement as stated
@@ -198,7 +198,7 @@ module _ {M : Type 1} (𝓤 : URA M) (H : Heap 𝓤) (A : Atoms 𝓤) (W : Given
         owned ! F.the-row (Is F.the-row) (EL.makes F.the-type F′.the-plain 𝓤 H A) (d .held) _ h $ fjoin ! $
         by ! (own-shut 𝓤 H A W (E κs) (LE κs) (d .held, (d′ r, tt)))
 
-  module _ (C : Calls 𝓤 H) (Λ : Loops 𝓤 H) (fm : FmC 𝓤 H (W .laws) C) (known : Triple 𝓤 (C #listing·seek·after) (After 𝓤 H A mem run)) where
+  module _ (C : Calls 𝓤 H) (Λ : Loops 𝓤 H) (fm : FmC 𝓤 H (W .laws) C) (known : Triple 𝓤 (C #seek·after) (After 𝓤 H A mem run)) where
     walk : Is (B κs) d (mach ∷ []) → ent 𝓤 Begins (WpFn 𝓤 H C Λ code.function (mach ∷ []) Post)
     walk was =
         let wt = LL.lawful (D κs) (L κs) 𝓤 H A W .typed d _ was .0 in
@@ -232,7 +232,7 @@ module _ {M : Type 1} (𝓤 : URA M) (H : Heap 𝓤) (A : Atoms 𝓤) (W : Given
         by ! (exits was r e))))))))))))
 
 step-meets : {M : Type 1} (𝓤 : URA M) (H : Heap 𝓤) (A : Atoms 𝓤) (W : Given 𝓤 H A) (mem : Memory → SProp 𝓤) (run : Routine → Fun 𝓤)
-    (𝓣 : Tables 𝓤 H) → Triple 𝓤 (𝓣 .C #listing·seek·after) (After 𝓤 H A mem run)
+    (𝓣 : Tables 𝓤 H) → Triple 𝓤 (𝓣 .C #seek·after) (After 𝓤 H A mem run)
     → Meets 𝓤 H A step.signature (WpFn 𝓤 H (𝓣 .C) (𝓣 .Λ) code.function) (step.spec 𝓤 H A mem run)
 step-meets 𝓤 H A W mem run 𝓣 known =
     let runs = WpFn 𝓤 H (𝓣 .C) (𝓣 .Λ) code.function in
@@ -246,6 +246,6 @@ step-meets 𝓤 H A W mem run 𝓣 known =
 pub step-spec : {M : Type 1} → stated.statement M
 unfolding code.routine
 step-spec 𝓤 H 𝓜 𝓖 𝓡 =
-    rests-on 𝓤 H 𝓜 𝓡 code.env #listing·iter·step #listing·seek·after code.function callee-def.routine (After 𝓤 H (𝓖 .A) (𝓜 .mem) (𝓡 .run))
-    (tripleOf 𝓤 H (𝓖 .A) step.signature (step.spec 𝓤 H (𝓖 .A) (𝓜 .mem) (𝓡 .run))) (code.unfolded 𝓤 H 𝓜 𝓡) code.calls-listing·seek·after
+    rests-on 𝓤 H 𝓜 𝓡 code.env #listing·iter·step #seek·after code.function callee-def.routine (After 𝓤 H (𝓖 .A) (𝓜 .mem) (𝓡 .run))
+    (tripleOf 𝓤 H (𝓖 .A) step.signature (step.spec 𝓤 H (𝓖 .A) (𝓜 .mem) (𝓡 .run))) (code.unfolded 𝓤 H 𝓜 𝓡) code.calls-seek·after
     (step-meets 𝓤 H (𝓖 .A) (givenOf 𝓤 H 𝓜 𝓖) (𝓜 .mem) (𝓡 .run)) (callee-thm.met 𝓤 H 𝓜 𝓖 𝓡)

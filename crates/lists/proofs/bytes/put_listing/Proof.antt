@@ -8,9 +8,9 @@ use lib.Seq.{length-take-le}
 use mir.Syntax.{w64}
 use mir.ValLaws.{toZ-ofZ, toZ-pos}
 use Rattle.row.specs.Answer.{at}
-use Rattle.listing.specs.Whole.{paperListed}
 use Rattle.wire.specs.Answer.{wireOf}
 use Rattle.wire.specs.Bytes.{numbersOver}
+use Rattle.whole.specs.Whole.{paperListed}
 use Rattle.lists.specs.Listings.{listedBytes}
 use Rattle.lists.proofs.Listed.{count-low, bytes-shut, bytes-open}
 use Rattle.lists.proofs.bytes.put_listing.Statement.{statement}

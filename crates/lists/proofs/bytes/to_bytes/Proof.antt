@@ -5,10 +5,10 @@ use borrow.Author.Needs.{needs}
 use lib.ListN.{length}
 use mir.Syntax.{w64}
 use mir.ValLaws.{toZ-ofZ}
-use Rattle.listing.specs.Whole.{countOf}
 use Rattle.wire.specs.Answer.{wireOf}
 use Rattle.wire.specs.Bytes.{wordAt, numberAt, wordsIn, numbersIn}
 use Rattle.wire.proofs.Lent.{lent, same}
+use Rattle.whole.specs.Whole.{countOf}
 use Rattle.lists.specs.Listings.{listedBytes}
 use Rattle.lists.proofs.bytes.to_bytes.Statement.{statement}
 use Rattle.lists.proofs.bytes.to_bytes.Tie as tie

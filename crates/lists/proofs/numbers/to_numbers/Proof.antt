@@ -6,8 +6,8 @@ use borrow.Author.Needs.{needs}
 use mir.Syntax.{w64}
 use mir.ValLaws.{toZ-ofZ, toZ-pos}
 use Rattle.row.specs.Answer.{at}
-use Rattle.listing.specs.Whole.{paperListed}
 use Rattle.wire.specs.Answer.{wireOf}
+use Rattle.whole.specs.Whole.{paperListed}
 use Rattle.lists.proofs.Listed.{count-low}
 use Rattle.lists.proofs.numbers.to_numbers.Statement.{statement}
 use Rattle.lists.proofs.numbers.to_numbers.Tie as tie
