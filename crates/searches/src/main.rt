@@ -27,90 +27,91 @@ fn tell(f: Found) {
     }
 }
 
-fn build(words: &[u64], n: usize, nodes: &mut [i64], block: usize) {
-    match mmt::build(words, n, nodes, block) {
+fn tell_built(b: Built) {
+    match b {
         Built::Done => {}
         Built::Refused(k) => say(b"  build refused", row::number(k)),
     }
 }
 
-fn fwd(words: &[u64], n: usize, nodes: &[i64], block: usize, i: usize, r: i64) {
-    tell(bp::fwd_search(words, n, nodes, block, i, r));
+// The row is the first n bits of the word, 48 at most; its nodes are built for blocks of so many bits, and asked with blocks of 8.
+fn forward(word: u64, n: usize, block: usize, i: usize, r: i64) {
+    let words = [word; 1];
+    let mut nodes = [0i64; 39];
+    tell_built(mmt::build(&words, n, &mut nodes, block));
+    tell(bp::fwd_search(&words, n, &nodes, 8, i, r));
 }
 
-fn bwd(words: &[u64], n: usize, nodes: &[i64], block: usize, i: usize, r: i64) {
-    tell(bp::bwd_search(words, n, nodes, block, i, r));
+fn backward(word: u64, n: usize, block: usize, i: usize, r: i64) {
+    let words = [word; 1];
+    let mut nodes = [0i64; 39];
+    tell_built(mmt::build(&words, n, &mut nodes, block));
+    tell(bp::bwd_search(&words, n, &nodes, 8, i, r));
 }
 
-// Row T, (()(())): a to d.
-fn cases_forward() {
+fn enclose(word: u64, n: usize, block: usize, i: usize) {
+    let words = [word; 1];
+    let mut nodes = [0i64; 39];
+    tell_built(mmt::build(&words, n, &mut nodes, block));
+    tell(bp::enclose(&words, n, &nodes, 8, i));
+}
+
+// (()(()))
+const ROW_T: u64 = 27;
+
+// a to d forward, e and f backward, and g.
+fn cases() {
     title(b"cases a to g");
-    let words = [27u64; 1];
-    let mut nodes = [0i64; 6];
-    build(&words, 8, &mut nodes, 8);
-    fwd(&words, 8, &nodes, 8, 0, -1);
-    fwd(&words, 8, &nodes, 8, 0, 1);
-    fwd(&words, 8, &nodes, 8, 2, 0);
-    fwd(&words, 8, &nodes, 8, 7, -1);
+    forward(ROW_T, 8, 8, 0, -1);
+    forward(ROW_T, 8, 8, 0, 1);
+    forward(ROW_T, 8, 8, 2, 0);
+    forward(ROW_T, 8, 8, 7, -1);
+    backward(ROW_T, 8, 8, 7, 0);
+    backward(ROW_T, 8, 8, 4, 1);
+    enclose(ROW_T, 8, 8, 6);
 }
 
-// e to g.
-fn cases_backward() {
-    let words = [27u64; 1];
-    let mut nodes = [0i64; 6];
-    build(&words, 8, &mut nodes, 8);
-    bwd(&words, 8, &nodes, 8, 7, 0);
-    bwd(&words, 8, &nodes, 8, 4, 1);
-    tell(bp::enclose(&words, 8, &nodes, 8, 6));
+// The calls on no words and no nodes.
+fn ask_empty(words: &[u64], nodes: &[i64]) {
+    tell(bp::fwd_search(words, 0, nodes, 8, 0, 0));
+    tell(bp::bwd_search(words, 0, nodes, 8, 0, 0));
+    tell(bp::close(words, 0, nodes, 8, 0));
+    tell(bp::open(words, 0, nodes, 8, 5));
+    tell(bp::enclose(words, 0, nodes, 8, 0));
+    tell(bp::close(words, 0, nodes, 12, 0));
 }
 
 fn empty() {
     title(b"empty row");
     let words = [0u64; 1];
     let nodes = [0i64; 1];
-    fwd(&words[..0], 0, &nodes[..0], 8, 0, 0);
-    bwd(&words[..0], 0, &nodes[..0], 8, 0, 0);
-    tell(bp::close(&words[..0], 0, &nodes[..0], 8, 0));
-    tell(bp::open(&words[..0], 0, &nodes[..0], 8, 5));
-    tell(bp::enclose(&words[..0], 0, &nodes[..0], 8, 0));
-    tell(bp::close(&words[..0], 0, &nodes[..0], 12, 0));
+    ask_empty(&words[..0], &nodes[..0]);
 }
 
 // A hit on a block's first bit: in the climb, in the descent's right child and in its left one.
 fn first_bits() {
     title(b"first bits of blocks");
-    let mut nodes = [0i64; 18];
-    let climb = [0b0101010111u64; 1];
-    build(&climb, 10, &mut nodes, 8);
-    bwd(&climb, 10, &nodes, 8, 9, -3);
-    let right = [0b000101101100000000u64; 1];
-    build(&right, 18, &mut nodes, 8);
-    bwd(&right, 18, &nodes, 8, 17, -1);
-    let left = [0b100000100111111111u64; 1];
-    build(&left, 18, &mut nodes, 8);
-    bwd(&left, 18, &nodes, 8, 17, -3);
+    backward(0b0101010111, 10, 8, 9, -3);
+    backward(0b000101101100000000, 18, 8, 17, -1);
+    backward(0b100000100111111111, 18, 8, 17, -3);
 }
+
+const SIX_BYTES: u64 = 0xff00ff00ff0f;
 
 // Six leaves: node 6 is childless, and a climb from the last leaves meets it as a right sibling.
 fn childless() {
     title(b"a childless sibling");
-    let words = [0xff00ff00ff0fu64; 1];
-    let mut nodes = [0i64; 39];
-    build(&words, 48, &mut nodes, 8);
-    fwd(&words, 48, &nodes, 8, 33, -9);
-    fwd(&words, 48, &nodes, 8, 3, 4);
-    bwd(&words, 48, &nodes, 8, 47, 1);
+    forward(SIX_BYTES, 48, 8, 33, -9);
+    forward(SIX_BYTES, 48, 8, 3, 4);
+    backward(SIX_BYTES, 48, 8, 47, 1);
 }
 
 // Nodes built for blocks of 24, asked with blocks of 8.
 fn other_blocks() {
     title(b"nodes of other blocks");
-    let words = [0xff00ff00ff0fu64; 1];
-    let mut nodes = [0i64; 39];
-    build(&words, 48, &mut nodes, 24);
-    fwd(&words, 48, &nodes, 8, 0, 3);
-    fwd(&words, 48, &nodes, 8, 10, -5);
-    bwd(&words, 48, &nodes, 8, 40, 1);
+    forward(SIX_BYTES, 48, 24, 0, 3);
+    forward(SIX_BYTES, 48, 24, 10, -5);
+    backward(SIX_BYTES, 48, 24, 40, 1);
 }
 
 fn put(nodes: &mut [i64], at: usize, x: i64) {
@@ -123,9 +124,9 @@ fn put(nodes: &mut [i64], at: usize, x: i64) {
 fn foreign(at: usize, x: i64, i: usize, r: i64) {
     let words = [0xffffffffffu64; 1];
     let mut nodes = [0i64; 36];
-    build(&words, 40, &mut nodes, 8);
+    tell_built(mmt::build(&words, 40, &mut nodes, 8));
     put(&mut nodes, at, x);
-    fwd(&words, 40, &nodes, 8, i, r);
+    tell(bp::fwd_search(&words, 40, &nodes, 8, i, r));
 }
 
 // Node 8, the second leaf, is the first that a climb from position 0 asks. Each of its numbers out of range; its total at the
@@ -149,8 +150,7 @@ fn foreign_in_descent() {
 }
 
 fn main() {
-    cases_forward();
-    cases_backward();
+    cases();
     empty();
     first_bits();
     childless();
