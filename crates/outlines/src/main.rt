@@ -4,6 +4,7 @@
 use libc::STDOUT_FILENO;
 use row::Built;
 use row::Found;
+use row::Refusal;
 use whole::Listed;
 
 fn say(label: &[u8], n: u64) {
@@ -17,8 +18,14 @@ fn title(label: &[u8]) {
     io::write_all(STDOUT_FILENO, b"\n");
 }
 
-fn build(words: &[u64], n: usize, nodes: &mut [i64], block: usize) {
-    match mmt::build(words, n, nodes, block) {
+// A refusal ends its line.
+fn refused(k: Refusal) {
+    say(b" refused", row::number(k));
+    title(b"");
+}
+
+fn tell_built(b: Built) {
+    match b {
         Built::Done => {}
         Built::Refused(k) => say(b"build refused", row::number(k)),
     }
@@ -28,41 +35,35 @@ fn tell(f: Found) {
     match f {
         Found::At(j) => say(b"", j as u64),
         Found::Nothing => title(b" nothing"),
-        Found::Refused(k) => {
-            say(b" refused", row::number(k));
-            title(b"");
-        }
+        Found::Refused(k) => refused(k),
     }
 }
 
-// An answer as a listing writes it: a position, -1 for nothing, -6 for refusal 5 and -9 for refusal 8. A step has no other.
+// An answer as a listing writes it: a position, -1 for nothing, -1 less the number for a refusal. It is read by
+// its bits: where it is below 0, their complement -1 - x is the lesser of the two.
 fn tell_number(x: i64) {
-    if x == -1 {
+    let bits = wire::to_word(x);
+    let less = u64::MAX - bits;
+    if bits < less {
+        say(b"", bits);
+    } else if less == 0 {
         title(b" nothing");
+    } else {
+        say(b" refused", less);
     }
-    if x == -6 {
-        io::write_all(STDOUT_FILENO, b" refused 5");
-    }
-    if x == -9 {
-        io::write_all(STDOUT_FILENO, b" refused 8");
-    }
-    if x < 0 {
-        return;
-    }
-    say(b"", x as u64);
 }
 
 // The neighbour of v on its level.
-fn beside(words: &[u64], n: usize, nodes: &[i64], block: usize, rising: bool, v: usize) -> Found {
+fn beside(words: &[u64], n: usize, nodes: &[i64], rising: bool, v: usize) -> Found {
     if rising {
-        bp::level_next(words, n, nodes, block, v)
+        bp::level_next(words, n, nodes, 8, v)
     } else {
-        bp::level_prev(words, n, nodes, block, v)
+        bp::level_prev(words, n, nodes, 8, v)
     }
 }
 
 // From one end of a level to the other.
-fn along(words: &[u64], n: usize, nodes: &[i64], block: usize, rising: bool, from: Found) {
+fn along(words: &[u64], n: usize, nodes: &[i64], rising: bool, from: Found) {
     let mut f = from;
     let mut left = n;
     while 0 < left {
@@ -70,7 +71,7 @@ fn along(words: &[u64], n: usize, nodes: &[i64], block: usize, rising: bool, fro
         tell(f);
         match f {
             Found::At(v) => {
-                f = beside(words, n, nodes, block, rising, v);
+                f = beside(words, n, nodes, rising, v);
             }
             Found::Nothing => {
                 return;
@@ -83,7 +84,7 @@ fn along(words: &[u64], n: usize, nodes: &[i64], block: usize, rising: bool, fro
 }
 
 // The levels 0 to deepest, and one past it, which has none.
-fn levels(words: &[u64], n: usize, nodes: &[i64], block: usize, deepest: u64) {
+fn levels(words: &[u64], n: usize, nodes: &[i64], deepest: u64) {
     let mut k = 0;
     while k < deepest {
         say(b"level", k);
@@ -91,18 +92,16 @@ fn levels(words: &[u64], n: usize, nodes: &[i64], block: usize, deepest: u64) {
             words,
             n,
             nodes,
-            block,
             true,
-            bp::level_leftmost(words, n, nodes, block, k),
+            bp::level_leftmost(words, n, nodes, 8, k),
         );
         say(b"level", k);
         along(
             words,
             n,
             nodes,
-            block,
             false,
-            bp::level_rightmost(words, n, nodes, block, k),
+            bp::level_rightmost(words, n, nodes, 8, k),
         );
         k += 1;
     }
@@ -117,97 +116,90 @@ fn answers(out: &[i64], count: usize) {
     }
 }
 
+fn tell_listed(l: Listed, out: &[i64]) {
+    match l {
+        Listed::Count(c) => answers(out, c),
+        Listed::Refused(k) => refused(k),
+    }
+}
+
 // The children of the node v, one way.
 fn children(words: &[u64], n: usize, nodes: &[i64], block: usize, rising: bool, v: usize) {
     let mut out = [0i64; 70];
     say(b"children of", v as u64);
-    match whole::list(words, n, nodes, block, rising, v, &mut out) {
-        Listed::Count(c) => answers(&out, c),
-        Listed::Refused(k) => {
-            say(b" refused", row::number(k));
-            title(b"");
-        }
+    let listed = whole::list(words, n, nodes, block, rising, v, &mut out);
+    tell_listed(listed, &out);
+}
+
+// Those of every position before end, so that those which do not open are refused.
+fn families(words: &[u64], n: usize, nodes: &[i64], end: usize) {
+    let mut v = 0;
+    while v < end {
+        children(words, n, nodes, 8, true, v);
+        children(words, n, nodes, 8, false, v);
+        v += 1;
     }
 }
 
-// Those of every position, so that those which do not open are refused.
-fn families(words: &[u64], n: usize, nodes: &[i64], block: usize) {
-    let mut v = 0;
-    while v < n {
-        children(words, n, nodes, block, true, v);
-        children(words, n, nodes, block, false, v);
-        v += 1;
-    }
+// The row is the first n bits of two words, in blocks of 8: its levels, and the children of every position before end.
+fn outline(low: u64, high: u64, n: usize, deepest: u64, end: usize) {
+    let words = [low, high];
+    let mut nodes = [0i64; 93];
+    tell_built(mmt::build(&words, n, &mut nodes, 8));
+    levels(&words, n, &nodes, deepest);
+    families(&words, n, &nodes, end);
+}
+
+// The children of its node v, one way, asked with blocks of so many bits.
+fn listing(low: u64, high: u64, n: usize, block: usize, rising: bool, v: usize) {
+    let words = [low, high];
+    let mut nodes = [0i64; 93];
+    tell_built(mmt::build(&words, n, &mut nodes, 8));
+    children(&words, n, &nodes, block, rising, v);
 }
 
 // Row T, (()(())), and a position past it.
 fn small() {
     title(b"(()(()))");
-    let words = [27u64; 1];
-    let mut nodes = [0i64; 6];
-    build(&words, 8, &mut nodes, 8);
-    levels(&words, 8, &nodes, 8, 4);
-    families(&words, 8, &nodes, 8);
-    children(&words, 8, &nodes, 8, true, 8);
-    children(&words, 8, &nodes, 12, true, 0);
+    outline(27, 0, 8, 4, 8);
+    listing(27, 0, 8, 8, true, 8);
+    listing(27, 0, 8, 12, true, 0);
 }
 
 // One node: level_rightmost(0) is nothing, as in the source.
 fn pair() {
     title(b"()");
-    let words = [1u64; 1];
-    let mut nodes = [0i64; 6];
-    build(&words, 2, &mut nodes, 8);
-    levels(&words, 2, &nodes, 8, 2);
-    families(&words, 2, &nodes, 8);
+    outline(1, 0, 2, 2, 2);
 }
 
 // 40 bits, in five blocks.
 fn middling() {
     title(b"((()(()))()((()))((())(()()))(()(()))())");
-    let words = [0x2362ce3a37u64; 1];
-    let mut nodes = [0i64; 36];
-    build(&words, 40, &mut nodes, 8);
-    levels(&words, 40, &nodes, 8, 5);
-    families(&words, 40, &nodes, 8);
+    outline(0x2362ce3a37, 0, 40, 5, 40);
 }
 
 // A root with 63 leaves beneath it.
 fn wide() {
     title(b"wide");
-    let words = [0xaaaaaaaaaaaaaaabu64, 0x2aaaaaaaaaaaaaaa];
-    let mut nodes = [0i64; 93];
-    build(&words, 128, &mut nodes, 8);
-    levels(&words, 128, &nodes, 8, 3);
-    children(&words, 128, &nodes, 8, true, 0);
-    children(&words, 128, &nodes, 8, false, 0);
+    outline(0xaaaaaaaaaaaaaaab, 0x2aaaaaaaaaaaaaaa, 128, 3, 1);
 }
 
 // 64 nodes, each beneath the one before.
 fn deep() {
     title(b"deep");
-    let words = [0xffffffffffffffffu64, 0];
-    let mut nodes = [0i64; 93];
-    build(&words, 128, &mut nodes, 8);
-    levels(&words, 128, &nodes, 8, 65);
-    children(&words, 128, &nodes, 8, true, 62);
-    children(&words, 128, &nodes, 8, false, 63);
-}
-
-fn put(nodes: &mut [i64], at: usize, x: i64) {
-    if at < nodes.len() {
-        nodes[at] = x;
-    }
+    outline(0xffffffffffffffff, 0, 128, 65, 0);
+    listing(0xffffffffffffffff, 0, 128, 8, true, 62);
+    listing(0xffffffffffffffff, 0, 128, 8, false, 63);
 }
 
 // Node 4's total is 2, and 5 is put in its place: a listing back from node 9 is led to position 5, which closes.
 fn foreign() {
     title(b"((((())))((()()()))) with foreign nodes");
+    listing(0xae1f, 0, 20, 8, false, 9);
     let words = [0xae1fu64; 1];
     let mut nodes = [0i64; 18];
-    build(&words, 20, &mut nodes, 8);
-    children(&words, 20, &nodes, 8, false, 9);
-    put(&mut nodes, 12, 5);
+    tell_built(mmt::build(&words, 20, &mut nodes, 8));
+    nodes[12] = 5;
     children(&words, 20, &nodes, 8, false, 9);
 }
 

@@ -5,10 +5,10 @@ use Rattle.outlines.proofs.along.Statement.{statement}
 use Rattle.outlines.proofs.along.Tie as tie
 
 abbrev Inv-loop : tie.InvT-loop
-Inv-loop words n nodes block rising f₀ left₀ f left = Unit
+Inv-loop words n nodes rising f₀ left₀ f left = Unit
 
 abbrev μ-loop : tie.MeasureT-loop
-μ-loop words n nodes block rising f₀ left₀ f left = left
+μ-loop words n nodes rising f₀ left₀ f left = left
 
 loop-holds : tie.Need-loop-holds Inv-loop μ-loop
 loop-holds c = tt

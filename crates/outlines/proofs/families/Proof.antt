@@ -6,10 +6,10 @@ use Rattle.outlines.proofs.families.Statement.{statement}
 use Rattle.outlines.proofs.families.Tie as tie
 
 abbrev Inv-loop : tie.InvT-loop
-Inv-loop words n nodes block v₀ v = Unit
+Inv-loop words n nodes end v₀ v = Unit
 
 abbrev μ-loop : tie.MeasureT-loop
-μ-loop words n nodes block v₀ v = n - v
+μ-loop words n nodes end v₀ v = end - v
 
 loop-holds : tie.Need-loop-holds Inv-loop μ-loop
 loop-holds c = tt

@@ -6,10 +6,10 @@ use Rattle.outlines.proofs.levels.Statement.{statement}
 use Rattle.outlines.proofs.levels.Tie as tie
 
 abbrev Inv-loop : tie.InvT-loop
-Inv-loop words n nodes block deepest k₀ t7 t8 k = Unit
+Inv-loop words n nodes deepest k₀ t7 t8 k = Unit
 
 abbrev μ-loop : tie.MeasureT-loop
-μ-loop words n nodes block deepest k₀ t7 t8 k = deepest - k
+μ-loop words n nodes deepest k₀ t7 t8 k = deepest - k
 
 loop-holds : tie.Need-loop-holds Inv-loop μ-loop
 loop-holds c = tt
