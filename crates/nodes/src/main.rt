@@ -11,39 +11,44 @@ fn say(label: &[u8], n: u64) {
     io::write_all(STDOUT_FILENO, b"\n");
 }
 
-fn tell(words: &[u64], n: usize, nodes: &[i64], block: usize) {
-    match mmt::as_built(words, n, nodes, block) {
-        Told::Yes => {
-            io::write_all(STDOUT_FILENO, b"  as built\n");
-        }
-        Told::No => {
-            io::write_all(STDOUT_FILENO, b"  not as built\n");
-        }
-        Told::Nothing => {
-            io::write_all(STDOUT_FILENO, b"  nothing\n");
-        }
+fn line(text: &[u8]) {
+    io::write_all(STDOUT_FILENO, text);
+    io::write_all(STDOUT_FILENO, b"\n");
+}
+
+fn tell_built(b: Built) {
+    match b {
+        Built::Done => line(b"  done"),
+        Built::Refused(k) => say(b"  refused", row::number(k)),
+    }
+}
+
+fn tell(t: Told) {
+    match t {
+        Told::Yes => line(b"  as built"),
+        Told::No => line(b"  not as built"),
+        Told::Nothing => line(b"  nothing"),
         Told::Refused(k) => say(b"  test refused", row::number(k)),
     }
 }
 
-fn build(words: &[u64], n: usize, nodes: &mut [i64], block: usize) {
+fn say_row(n: usize, block: usize) {
     say(b"bits", n as u64);
     say(b"block", block as u64);
-    match mmt::build(words, n, nodes, block) {
-        Built::Done => {
-            io::write_all(STDOUT_FILENO, b"  done\n");
-        }
-        Built::Refused(k) => say(b"  refused", row::number(k)),
-    }
-    tell(words, n, nodes, block);
+}
+
+fn build(words: &[u64], n: usize, nodes: &mut [i64], block: usize) {
+    say_row(n, block);
+    tell_built(mmt::build(words, n, nodes, block));
+    tell(mmt::as_built(words, n, nodes, block));
 }
 
 // Whether the number at i is x.
 fn number_is(nodes: &[i64], i: usize, x: i64) {
     if i < nodes.len() && nodes[i] == x {
-        io::write_all(STDOUT_FILENO, b"  number as given\n");
+        line(b"  number as given");
     } else {
-        io::write_all(STDOUT_FILENO, b"  another number\n");
+        line(b"  another number");
     }
 }
 
@@ -62,7 +67,7 @@ fn damage(words: &[u64], n: usize, nodes: &mut [i64], block: usize, i: usize, x:
         return;
     }
     nodes[i] = x;
-    tell(words, n, nodes, block);
+    tell(mmt::as_built(words, n, nodes, block));
 }
 
 fn inner(leaves: usize) {
@@ -73,50 +78,77 @@ fn inner(leaves: usize) {
     }
 }
 
+fn row_t_nodes(nodes: &[i64]) {
+    node_is(nodes, 0, 0, 0, 3);
+    node_is(nodes, 3, 0, 0, 3);
+    number_is(nodes, 6, 7);
+}
+
 // Row T in one block, with a number to spare.
 fn row_t() {
     let words = [27u64; 1];
     let mut nodes = [7i64; 7];
     build(&words, 8, &mut nodes, 8);
-    node_is(&nodes, 0, 0, 0, 3);
-    node_is(&nodes, 3, 0, 0, 3);
-    number_is(&nodes, 6, 7);
+    row_t_nodes(&nodes);
     damage(&words, 8, &mut nodes, 8, 4, -1);
 }
 
-// Forty bits in five blocks: nodes 5 and 6 are an inner node with a left child alone and a childless one. Blocks of 16 have the
-// same nodes but for the lowest level, so that buffer is as built for them too; for blocks of 24 it is foreign.
+const FORTY: u64 = 0x0f0f33ff01;
+
+// Forty bits in five blocks, with a number too few.
+fn forty_refused() {
+    let words = [FORTY; 1];
+    let mut nodes = [9i64; 35];
+    build(&words, 40, &mut nodes, 8);
+    number_is(&nodes, 0, 9);
+}
+
+// Nodes 5 and 6 are an inner node with a left child alone and a childless one. Blocks of 16 have the same nodes but for the lowest
+// level, so that the buffer is as built for them too; for blocks of 24 it is foreign.
+fn forty_nodes(words: &[u64], nodes: &[i64]) {
+    node_is(nodes, 18, 0, 0, 0);
+    node_is(nodes, 15, 0, 0, 4);
+    tell(mmt::as_built(words, 40, nodes, 16));
+    tell(mmt::as_built(words, 40, nodes, 24));
+    tell(mmt::as_built(words, 39, nodes, 8));
+}
+
 fn forty() {
-    let words = [0x0f0f33ff01u64; 1];
-    let mut few = [9i64; 35];
-    build(&words, 40, &mut few, 8);
-    number_is(&few, 0, 9);
+    let words = [FORTY; 1];
     let mut nodes = [9i64; 36];
     build(&words, 40, &mut nodes, 8);
-    node_is(&nodes, 18, 0, 0, 0);
-    node_is(&nodes, 15, 0, 0, 4);
-    tell(&words, 40, &nodes, 16);
-    tell(&words, 40, &nodes, 24);
-    tell(&words, 39, &nodes, 8);
+    forty_nodes(&words, &nodes);
     damage(&words, 40, &mut nodes, 8, 20, 1);
 }
 
-fn block_sizes() {
+fn build_two_words(n: usize, block: usize) {
     let words = [5u64; 2];
     let mut nodes = [1i64; 48];
-    build(&words, 128, &mut nodes, 65536);
-    build(&words, 128, &mut nodes, 65544);
-    build(&words, 128, &mut nodes, 12);
-    build(&words, 128, &mut nodes, 0);
-    build(&words, 128, &mut nodes, 64);
-    build(&words, 129, &mut nodes, 64);
-    build(&words, 4294967297, &mut nodes, 64);
-    build(&words, 0, &mut nodes[..0], 64);
-    build(&words, 0, &mut nodes[..0], 7);
+    build(&words, n, &mut nodes, block);
+}
+
+// No bits, and no room for nodes.
+fn build_none(block: usize) {
+    let words = [5u64; 2];
+    let mut nodes = [1i64; 1];
+    build(&words, 0, &mut nodes[..0], block);
+}
+
+fn block_sizes() {
+    build_two_words(128, 65536);
+    build_two_words(128, 65544);
+    build_two_words(128, 12);
+    build_two_words(128, 0);
+    build_two_words(128, 64);
+    build_two_words(129, 64);
+    build_two_words(4294967297, 64);
+    build_none(64);
+    build_none(7);
 }
 
 fn main() {
     row_t();
+    forty_refused();
     forty();
     block_sizes();
     inner(1);
