@@ -1,5 +1,6 @@
-//! Finds the static libraries in the repository's `target/staticlib`, and has them proved and built where they are missing or
-//! older than the Rattle sources that they are made of.
+//! Links the static libraries from `target/staticlib` of the repository.
+//!
+//! A library that is missing or older than its Rattle sources is first proved and built with `rt staticlib`.
 
 use std::collections::BTreeSet;
 use std::fs;
@@ -10,12 +11,12 @@ use std::time::SystemTime;
 const LIBRARIES: [&str; 2] = ["capi", "probe"];
 
 fn main() {
-    let manifest = PathBuf::from(std::env::var_os("CARGO_MANIFEST_DIR").expect("cargo names the package's folder"));
-    let root = manifest.ancestors().nth(2).expect("the package stands in the repository's host/");
+    let manifest = PathBuf::from(std::env::var_os("CARGO_MANIFEST_DIR").expect("cargo sets CARGO_MANIFEST_DIR"));
+    let root = manifest.ancestors().nth(2).expect("the package is in the folder host/ of the repository");
     let built = root.join("target/staticlib");
     let listed = root.join("crates.txt");
     watch(&listed);
-    let list = fs::read_to_string(&listed).expect("the repository lists its crates");
+    let list = fs::read_to_string(&listed).expect("cannot read crates.txt of the repository");
     for library in LIBRARIES {
         let archive = built.join(format!("lib{library}.a"));
         watch(&archive);
@@ -30,12 +31,15 @@ fn main() {
     println!("cargo:rustc-link-search=native={}", built.display());
 }
 
+/// Tells cargo to run this script again when `path` changes.
 fn watch(path: &Path) {
     println!("cargo:rerun-if-changed={}", path.display());
 }
 
-/// The crates that `name` is made of, itself among them. A line of the list is `NAME: DEP DEP ..`, `#` starts a comment.
-/// Names that the list lacks are the kit's libraries.
+/// Returns the crate `name` and all listed crates that it depends on, directly or not.
+///
+/// A line of the list is `NAME: DEP DEP ..`, and `#` starts a comment. A dependency that the list does not name is a library
+/// of the Rattle kit and is skipped.
 fn reached(list: &str, name: &str) -> BTreeSet<String> {
     let depends = |of: &str| {
         let lines = list.lines().map(|line| line.split('#').next().unwrap_or(""));
@@ -56,24 +60,25 @@ fn reached(list: &str, name: &str) -> BTreeSet<String> {
     found
 }
 
-/// When a file was last written; nothing, which is before any time, where there is none.
+/// Returns the time of the last write to a file, or `None` if the file does not exist. `None` compares as the earliest time.
 fn changed(file: &Path) -> Option<SystemTime> {
     fs::metadata(file).and_then(|data| data.modified()).ok()
 }
 
-/// When the newest file of a folder was written.
+/// Returns the time of the last write to any file of a folder and its subfolders.
 fn newest(folder: &Path) -> Option<SystemTime> {
     let entries = fs::read_dir(folder).unwrap_or_else(|error| panic!("{}: {error}", folder.display()));
     entries
-        .map(|entry| entry.expect("a folder can be read").path())
+        .map(|entry| entry.expect("cannot read a folder entry").path())
         .map(|path| if path.is_dir() { newest(&path) } else { changed(&path) })
         .max()
         .flatten()
 }
 
+/// Proves and builds a library with `rt`. Panics with the output of `rt` if it fails.
 fn prove(root: &Path, library: &str) {
     let run = Command::new("rt").args(["staticlib", library]).current_dir(root).output();
-    let run = run.unwrap_or_else(|error| panic!("`rt`, which proves and builds lib{library}.a, does not run: {error}"));
+    let run = run.unwrap_or_else(|error| panic!("cannot run `rt` to prove and build lib{library}.a: {error}"));
     assert!(
         run.status.success(),
         "`rt staticlib {library}` failed:\n{}{}",

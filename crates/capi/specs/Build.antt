@@ -6,12 +6,12 @@ use lib.IntN.{ℤ}
 use lib.ListN.{length}
 use Rattle.row.specs.Answer.{at}
 use Rattle.row.specs.Gates.{through, kept}
-use Rattle.layout.specs.Layout.{nodesGate}
-use Rattle.node.specs.Nodes.{written}
+use Rattle.mmt_layout.specs.Layout.{nodesGate}
+use Rattle.mmt_node.specs.Nodes.{written}
 use Rattle.wire.specs.Answer.{wireOf}
 use Rattle.wire.specs.Limit.{wireBits}
 use Rattle.wire.specs.Bytes.{numbersOver}
-use Rattle.wire.specs.Lent.{rowWords, nodeNumbers}
+use Rattle.wire.specs.Decoded.{rowWords, nodeNumbers}
 
 -- the bytes s after a build with room for t numbers: those of the numbers that document 01 gives, followed by what stood past them; a
 -- refusal leaves all

@@ -3,10 +3,12 @@
 // What is lent is decoded into arrays, as much as fits: more than that no row of 4,096 bits needs. A call over the arrays then
 // tests and answers; a longer row reaches it as one that it refuses by 2. Nothing but a build that is done writes.
 ghost use mathlib.Core.Path.{_≡_};
-ghost use Rattle.demands.specs.Questions.{promised, closeOf, enclose, isAncestor};
-ghost use Rattle.asking.specs.Bytes.{byteAnswer};
+ghost use Rattle.bp_spec.specs.declared.question.Question.the-variants.{Close, Enclose, IsAncestor};
+ghost use Rattle.bp_spec.specs.Questions.{promised};
+ghost use Rattle.c_dispatch.specs.Bytes.{byteAnswer};
 ghost use Rattle.capi.specs.Build.{buildWire, builtBytes};
-use asking::Question;
+use bp_spec::Question;
+use c_dispatch::Request;
 
 mod call;
 
@@ -32,17 +34,29 @@ pub extern "C" fn bp_build(row: &[u8], bits: u64, nodes: &mut [u8], block: u64) 
 // close(at), for any position.
 #[no_mangle]
 pub extern "C" fn bp_close(row: &[u8], bits: u64, nodes: &[u8], block: u64, at: u64) -> i64
-    ensures { λ r. ⌜ r ≡ byteAnswer promised (now (row .entry)) bits (now (nodes .entry)) block (closeOf at) ⌝ }
+    ensures { λ r. ⌜ r ≡ byteAnswer promised (now (row .entry)) bits (now (nodes .entry)) block (Close at) ⌝ }
 {
-    asking::over_bytes(row, bits, nodes, block, Question::Close(at as usize))
+    c_dispatch::over_bytes(
+        row,
+        bits,
+        nodes,
+        block,
+        Request::Call(Question::Close(at as usize)),
+    )
 }
 
 // enclose(at), for any position.
 #[no_mangle]
 pub extern "C" fn bp_enclose(row: &[u8], bits: u64, nodes: &[u8], block: u64, at: u64) -> i64
-    ensures { λ r. ⌜ r ≡ byteAnswer promised (now (row .entry)) bits (now (nodes .entry)) block (enclose at) ⌝ }
+    ensures { λ r. ⌜ r ≡ byteAnswer promised (now (row .entry)) bits (now (nodes .entry)) block (Enclose at) ⌝ }
 {
-    asking::over_bytes(row, bits, nodes, block, Question::Enclose(at as usize))
+    c_dispatch::over_bytes(
+        row,
+        bits,
+        nodes,
+        block,
+        Request::Call(Question::Enclose(at as usize)),
+    )
 }
 
 // is_ancestor(ancestor, descendant): 1 or 0, nothing where the ancestor has no close.
@@ -55,13 +69,13 @@ pub extern "C" fn bp_is_ancestor(
     ancestor: u64,
     descendant: u64,
 ) -> i64
-    ensures { λ r. ⌜ r ≡ byteAnswer promised (now (row .entry)) bits (now (nodes .entry)) block (isAncestor ancestor descendant) ⌝ }
+    ensures { λ r. ⌜ r ≡ byteAnswer promised (now (row .entry)) bits (now (nodes .entry)) block (IsAncestor ancestor descendant) ⌝ }
 {
-    asking::over_bytes(
+    c_dispatch::over_bytes(
         row,
         bits,
         nodes,
         block,
-        Question::IsAncestor(ancestor as usize, descendant as usize),
+        Request::Call(Question::IsAncestor(ancestor as usize, descendant as usize)),
     )
 }

@@ -19,15 +19,15 @@ use Rattle.ints.proofs.Shapes.{zsum}
 use Rattle.row.specs.Answer.{Answer, at}
 use Rattle.row.specs.Excess.{E}
 use Rattle.row.specs.Search.{fwd, bwd}
-use Rattle.row.specs.Tree.{opens, OneTree}
-use Rattle.row.proofs.Bools.{and-left, and-right}
-use Rattle.handle.specs.Bare.{handleAt, firstChild}
-use Rattle.calls.specs.Composed.{defined, onward}
-use Rattle.sibling.specs.Siblings.{lastChild, nextSibling, previousSibling}
-use Rattle.demands.specs.Handles.{Handle, atDepth, isBefore, childOf}
-use Rattle.demands.proofs.Nexts.{next, prev, next-is, next-none, prev-skip, prev-none, prev-same}
-use Rattle.demands.proofs.Turns.{not-yes, Up, Down, turn, opens-up, stands, at-depth}
-use Rattle.demands.proofs.Closing.{Closed, closing, open-deep}
+use Rattle.row.specs.Tree.{opens, OneTree, Handle}
+use Rattle.row.proofs.Bools.{and-left, and-right, not-yes}
+use Rattle.bp_spec.specs.RowCalls.{handleAt, firstChild}
+use Rattle.bp_spec.specs.SearchPair.{defined, onward}
+use Rattle.bp_spec.specs.SiblingCalls.{lastChild, nextSibling, previousSibling}
+use Rattle.demands.specs.Handles.{atDepth, isBefore, childOf}
+use Rattle.demands.proofs.Neighbours.{next, prev, next-is, next-none, prev-skip, prev-none, prev-same}
+use Rattle.demands.proofs.Depths.{Up, Down, turn, opens-up, stands, at-depth}
+use Rattle.demands.proofs.Closes.{Closed, closing, open-deep}
 
 -- x is a child of v, which closes at c
 pub record Kid (ws : List ℕ) (n v c x : ℕ) : Type 0 where
@@ -161,8 +161,8 @@ module _ (ws : List ℕ) (n : ℕ) (t : OneTree ws n) (v c : ℕ) (o : Handle ws
       let z = d .over c r (omega arith) in
       elim (turn ws n c (d .low)) [ inl u ↦ absurd (omega zsum) | inr u ↦ omega zsum ]
 
-  shut : suc v < c → Down ws n (c - 1)
-  shut i =
+  close-before : suc v < c → Down ws n (c - 1)
+  close-before i =
       let w : suc (c - 1) ≡ c = omega arith in
       let z = d .over (c - 1) (omega arith) (omega arith) in
       elim (turn ws n (c - 1) (omega arith)) [
@@ -188,7 +188,7 @@ module _ (ws : List ℕ) (n : ℕ) (t : OneTree ws n) (v c : ℕ) (o : Handle ws
       go (inl u) =
           let i = deeper u in
           let w : suc (c - 1) ≡ c = omega arith in
-          let z = shut i in
+          let z = close-before i in
           let e : E ws c +ℤ pos 1 ≡ E ws (c - 1) = rw w at (z .step) in
           rw (add-one v, u .open-is, lastChild, d .is)
           (last-kid (c - 1) n u (apart (suc v) (c - 1) u z (omega arith)) (omega arith) (omega arith)

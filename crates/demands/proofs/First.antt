@@ -14,20 +14,21 @@ use lib.IntN.{ℤ}
 use lib.ListN.{length, drop}
 use Rattle.row.specs.declared.refusal.Refusal.the-variants.{TooManyBits, NotAParenthesis}
 use Rattle.row.specs.declared.gate.Gate.{Gate}
-use Rattle.row.specs.declared.gate.Gate.the-variants.{Open, Shut}
+use Rattle.row.specs.declared.gate.Gate.the-variants.{Pass, Refuse}
 use Rattle.row.specs.Answer.{Answer, at, refused}
 use Rattle.row.specs.Gates.{wordsFor, rowGate, through, kept}
 use Rattle.row.specs.Tree.{oneTree}
-use Rattle.text.specs.Text.{allParentheses, wordsOf, textGate, textWords}
-use Rattle.tree.specs.OneTree.{oneTreeAnswer}
-use Rattle.layout.specs.Layout.{width, count, nodesGate}
-use Rattle.node.specs.Nodes.{written}
-use Rattle.mmt.specs.Build.{builtNodes}
-use Rattle.mmt.specs.Check.{builtTest, asBuiltAnswer}
-use Rattle.demands.specs.First.{May, buildAnswer, readAnswer, First}
-use Rattle.demands.proofs.Allowed.{one, two, three, four, answers-may}
-use Rattle.demands.proofs.Ordered.{order-of}
-use Rattle.demands.proofs.Tested.{shut-row, shut-nodes, may-through}
+use Rattle.text.specs.Text.{allParentheses, wordsOf, textGate, textWords, readAnswer}
+use Rattle.one_tree.specs.OneTree.{oneTreeAnswer}
+use Rattle.mmt_layout.specs.Layout.{width, count, nodesGate}
+use Rattle.mmt_node.specs.Nodes.{written}
+use Rattle.mmt_build.specs.Build.{builtNodes, buildAnswer}
+use Rattle.mmt_build.specs.Check.{builtTest, asBuiltAnswer}
+use Rattle.demands.specs.First.{First}
+use Rattle.bp_spec.specs.Ranges.{May}
+use Rattle.bp_spec.proofs.AnswerRange.{one, two, three, four, answers-may}
+use Rattle.demands.proofs.CallOrder.{order-of}
+use Rattle.bp_spec.proofs.GateRange.{refused-row, refused-nodes, may-through}
 
 yes-or-no : (l : List ℕ) (t : Bool) → May 2 l (cond t (at 1) (at 0))
 yes-or-no l true = omega arith
@@ -36,7 +37,7 @@ yes-or-no l false = omega arith
 tree-may : (ws : List ℕ) (n : ℕ) → May 2 (2 ∷ 3 ∷ []) (oneTreeAnswer ws n)
 unfolding oneTreeAnswer
 tree-may ws n =
-    may-through (2 ∷ 3 ∷ []) 2 (rowGate (length ws) n) (cond (oneTree ws n) (at 1) (at 0)) (shut-row (2 ∷ 3 ∷ []) (length ws) n one two)
+    may-through (2 ∷ 3 ∷ []) 2 (rowGate (length ws) n) (cond (oneTree ws n) (at 1) (at 0)) (refused-row (2 ∷ 3 ∷ []) (length ws) n one two)
     (λ g. yes-or-no (2 ∷ 3 ∷ []) (oneTree ws n))
 
 -- refusals 1 to 4
@@ -46,11 +47,11 @@ rooms = 1 ∷ 2 ∷ 3 ∷ 4 ∷ []
 module _ (ws : List ℕ) (n : ℕ) (s : List ℤ) (B : ℕ) where
   rooms-may : (b : ℕ) (a : Answer) → May b rooms a → May b rooms (through (nodesGate (length ws) n (length s) B) a)
   rooms-may b a h =
-      may-through rooms b (nodesGate (length ws) n (length s) B) a (shut-nodes rooms (length ws) n (length s) B one two three four) (λ g. h)
+      may-through rooms b (nodesGate (length ws) n (length s) B) a (refused-nodes rooms (length ws) n (length s) B one two three four) (λ g. h)
 
   built-may : May 2 rooms (asBuiltAnswer ws n s B)
   unfolding asBuiltAnswer
-  built-may = rooms-may 2 (cond (builtTest ws n B s) (at 1) (at 0)) (yes-or-no rooms (builtTest ws n B s))
+  built-may = rooms-may 2 (cond (builtTest ws n s B) (at 1) (at 0)) (yes-or-no rooms (builtTest ws n s B))
 
   build-may : May 1 rooms (buildAnswer ws n s B)
   build-may = rooms-may 1 (at 0) (omega arith)
@@ -65,18 +66,18 @@ read-may text ws = go (leb (length text) 4294967296) refl (allParentheses text)
   where
     go : (t : Bool) → leb (length text) 4294967296 ≡ t → (u : Bool)
         → May 4294967297 texts
-        (through (cond t (cond u (rowGate (length ws) (length text)) (Shut NotAParenthesis)) (Shut TooManyBits)) (at (length text)))
+        (through (cond t (cond u (rowGate (length ws) (length text)) (Refuse NotAParenthesis)) (Refuse TooManyBits)) (at (length text)))
     go true e true =
         let l = leb-true (length text) 4294967296 e in
         may-through texts 4294967297 (rowGate (length ws) (length text)) (at (length text))
-        (shut-row texts (length ws) (length text) one three) (λ g. omega arith)
+        (refused-row texts (length ws) (length text) one three) (λ g. omega arith)
     go true e false = two
     go false e u = one
 
 -- a refusal leaves what was there
 keeps : {A : Type 0} (g : Gate) (x k : ℕ) (new old : A) → through g (at x) ≡ refused k → kept g new old ≡ old
-keeps Open x k new old e = let z : _≡_ {A = ℕ} 0 1 = cc in absurd (omega arith)
-keeps (Shut j) x k new old e = refl
+keeps Pass x k new old e = let z : _≡_ {A = ℕ} 0 1 = cc in absurd (omega arith)
+keeps (Refuse j) x k new old e = refl
 
 build-leaves : (ws : List ℕ) (n : ℕ) (s : List ℤ) (B k : ℕ) → buildAnswer ws n s B ≡ refused k → builtNodes ws n s B ≡ s
 unfolding builtNodes

@@ -19,16 +19,16 @@ use Rattle.ints.proofs.Shapes.{zsum}
 use Rattle.ints.proofs.Order.{eqZ-true, eqZ-false}
 use Rattle.row.specs.Answer.{Answer, at}
 use Rattle.row.specs.Excess.{E}
-use Rattle.row.specs.Search.{before, fwd, bwd}
+use Rattle.row.specs.Search.{excessBefore, fwd, bwd}
 use Rattle.row.specs.Tree.{OneTree}
-use Rattle.calls.specs.Composed.{defined, onward, openOf}
-use Rattle.level.specs.Levels.{levelNext, levelPrev}
-use Rattle.ends.specs.Ends.{ones, levelLeftmost, levelRightmost, lastStart}
-use Rattle.ends.proofs.Rightmost.{E-ones}
+use Rattle.bp_spec.specs.SearchPair.{defined, onward, openOf}
+use Rattle.bp_spec.specs.LevelCalls.{levelNext, levelPrev}
+use Rattle.bp_spec.specs.LevelEnds.{ones, levelLeftmost, levelRightmost, lastStart}
+use Rattle.bp_spec.proofs.RightmostStart.{E-ones}
 use Rattle.demands.specs.Handles.{atDepth}
-use Rattle.demands.proofs.Nexts.{next, prev, next-yes, next-skip, prev-skip, prev-none, Near, nearest}
-use Rattle.demands.proofs.Turns.{Stands, turn, stands, at-depth, not-depth, first-deep}
-use Rattle.demands.proofs.Closing.{bwd-prev, open-deep, E-zero, closing, root-up}
+use Rattle.demands.proofs.Neighbours.{next, prev, next-yes, next-skip, prev-skip, prev-none, NearestBelow, nearest}
+use Rattle.demands.proofs.Depths.{Stands, turn, stands, at-depth, not-depth, first-deep}
+use Rattle.demands.proofs.Closes.{bwd-prev, open-deep, E-zero, closing, root-up}
 
 module _ (ws : List ℕ) (n : ℕ) where
   -- from where the excess and r make k + 1, back by r and then to the open
@@ -37,13 +37,13 @@ module _ (ws : List ℕ) (n : ℕ) where
   back-twice k r x m l u w f = ap (λ (a : Answer). onward a (openOf (defined ws n))) (bwd-prev ws n x r l) ∙ go (nearest p x)
     where
       p : ℕ → Bool
-      p = before (E ws) (E ws x +ℤ r)
+      p = excessBefore (E ws) (E ws x +ℤ r)
 
       -- a handle of depth k has k + 1 after it
       none : (y : ℕ) → y < m → (suc y < x → p (suc y) ≡ false) → Stands ws n k y → ⊥
       none y b g s = elim (decLt (suc y) x) [ yes a ↦ eqZ-false (E ws (suc y)) (E ws x +ℤ r) (g a) (s .over ∙ sym w) | no a ↦ f y (omega arith) b s ]
 
-      go : ((j : ℕ) × Near p x j) ⊎ ((y : ℕ) → y < x → p y ≡ false) → onward (prev p x) (openOf (defined ws n)) ≡ prev (atDepth ws n k) m
+      go : ((j : ℕ) × NearestBelow p x j) ⊎ ((y : ℕ) → y < x → p y ≡ false) → onward (prev p x) (openOf (defined ws n)) ≡ prev (atDepth ws n k) m
       go (inl (j, h)) =
           let d : E ws j ≡ k +ℤ pos 1 = eqZ-true (E ws j) (E ws x +ℤ r) (h .has) ∙ w in
           let skip = prev-skip (atDepth ws n k) j m (omega arith) (λ y a b. not-depth ws n k y (none y b (λ c. h .rest (suc y) (omega arith) c))) in

@@ -12,27 +12,29 @@ use lib.IntN.{ℤ}
 use lib.ListN.{length, getD}
 use denote.Ref.{RefT, now}
 use Rattle.row.specs.Answer.{Answer, at, nothing, refused}
-use Rattle.row.proofs.Gates.{row-open}
-use Rattle.layout.specs.Layout.{Fine}
-use Rattle.layout.proofs.Admitted.{fine-gate}
-use Rattle.handle.specs.Bare.{handleAnswer}
-use Rattle.calls.specs.Handles.{nodeAnswer}
-use Rattle.seek.specs.Sought.{sought, making, begun, after}
-use Rattle.listing.specs.Listing.{Listing, holding, made}
-use Rattle.listing.specs.Steps.{answerAt, nth}
-use Rattle.listing.proofs.Sequence.{next, ended}
-use Rattle.whole.specs.Whole.{answers}
-use Rattle.demands.specs.Questions.{Question, firstChild, lastChild, nextSibling, previousSibling, promised}
-use Rattle.demands.specs.Listing.{Names}
+use Rattle.row.proofs.Gates.{row-passed}
+use Rattle.mmt_layout.specs.Layout.{Fine}
+use Rattle.mmt_layout.proofs.Admitted.{fine-gate}
+use Rattle.bp_spec.specs.RowCalls.{handleAnswer}
+use Rattle.bp_spec.specs.HandleCalls.{nodeAnswer}
+use Rattle.list_slice.specs.Seek.{sought, making, begun, heldAfter}
+use Rattle.list_struct.specs.Listing.{Listing, holding, created}
+use Rattle.list_struct.specs.Steps.{answerAt, nth}
+use Rattle.list_struct.proofs.Sequence.{next, ended}
+use Rattle.list_slice.specs.WholeListing.{answers}
+use Rattle.bp_spec.specs.declared.question.Question.{Question}
+use Rattle.bp_spec.specs.declared.question.Question.the-variants.{FirstChild, LastChild, NextSibling, PreviousSibling}
+use Rattle.bp_spec.specs.Questions.{promised}
+use Rattle.demands.specs.Lists.{Names}
 
 -- the questions by which a listing starts and goes on
 abbrev pub starting : Bool → ℕ → Question
-starting true = firstChild
-starting false = lastChild
+starting true = FirstChild
+starting false = LastChild
 
-abbrev pub sibling : Bool → ℕ → Question
-sibling true = nextSibling
-sibling false = previousSibling
+abbrev pub siblingCall : Bool → ℕ → Question
+siblingCall true = NextSibling
+siblingCall false = PreviousSibling
 
 module _ (rising : Bool) (ws : RefT (List ℕ)) (n : ℕ) (s : RefT (List ℤ)) (B : ℕ) where
   abbrev ask : Question → Answer
@@ -42,22 +44,22 @@ module _ (rising : Bool) (ws : RefT (List ℕ)) (n : ℕ) (s : RefT (List ℤ)) 
   abbrev with : Answer → Listing
   with a = record { words = ws; n = n; nodes = s; block = B; rising = rising; held = a }
 
-  held-next : (r : Bool) (v : ℕ) → after r (now ws) n (now s) B (at v) ≡ ask (sibling r v)
+  held-next : (r : Bool) (v : ℕ) → heldAfter r (now ws) n (now s) B (at v) ≡ ask (siblingCall r v)
   held-next true v = refl
   held-next false v = refl
 
-  named : (l : List ℕ) (k : ℕ) (q : Question) → Names ask (sibling rising) q l → answerAt k (with (ask q)) ≡ nth l k
+  named : (l : List ℕ) (k : ℕ) (q : Question) → Names ask (siblingCall rising) q l → answerAt k (with (ask q)) ≡ nth l k
   unfolding answerAt
   named [] zero q e = e
   named [] (suc k) q e = ended (with (ask q)) (suc k) 0 (omega arith) e
   named (v ∷ l) zero q e = e .0
   named (v ∷ l) (suc k) q e =
-      ap (λ (a : Answer). answerAt k (with (after rising (now ws) n (now s) B a))) (e .0)
+      ap (λ (a : Answer). answerAt k (with (heldAfter rising (now ws) n (now s) B a))) (e .0)
       ∙ ap (λ (a : Answer). answerAt k (with a)) (held-next rising v)
-      ∙ named l k (sibling rising v) (e .1)
+      ∙ named l k (siblingCall rising v) (e .1)
 
   -- what is named is not refused
-  begun-named : (l : List ℕ) (q : Question) → Names ask (sibling rising) q l → (making (ask q) ≡ at 0) × (begun (ask q) ≡ ask q)
+  begun-named : (l : List ℕ) (q : Question) → Names ask (siblingCall rising) q l → (making (ask q) ≡ at 0) × (begun (ask q) ≡ ask q)
   begun-named [] q e = (ap making e, ap begun e ∙ sym e)
   begun-named (v ∷ l) q e = (ap making (e .0), ap begun (e .0) ∙ sym (e .0))
 
@@ -66,14 +68,14 @@ module _ (rising : Bool) (ws : RefT (List ℕ)) (n : ℕ) (s : RefT (List ℤ)) 
     unfolding sought handleAnswer nodeAnswer
     first-sought true =
         let w = fine .words in
-        rw (fine-gate (length (now ws)) n (length (now s)) B fine, sym (row-open (length (now ws)) n (fine .short) (omega arith)))
+        rw (fine-gate (length (now ws)) n (length (now s)) B fine, sym (row-passed (length (now ws)) n (fine .short) (omega arith)))
     first-sought false = refl
 
-    module _ (l : List ℕ) (e : Names ask (sibling rising) (starting rising v) l) where
-      pub made-named : made rising ws n s B v .answer ≡ at 0
+    module _ (l : List ℕ) (e : Names ask (siblingCall rising) (starting rising v) l) where
+      pub made-named : created rising ws n s B v .answer ≡ at 0
       made-named = ap making (first-sought rising) ∙ begun-named l (starting rising v) e .0
 
-      pub steps-named : (k : ℕ) → answerAt k (made rising ws n s B v .listing) ≡ nth l k
+      pub steps-named : (k : ℕ) → answerAt k (created rising ws n s B v .listing) ≡ nth l k
       steps-named k =
           ap (λ (a : Answer). answerAt k (with a)) (ap begun (first-sought rising) ∙ begun-named l (starting rising v) e .1)
           ∙ named l k (starting rising v) e

@@ -18,15 +18,16 @@ use Rattle.ints.proofs.Shapes.{zsum}
 use Rattle.ints.proofs.Order.{eqZ-true, eqZ-false}
 use Rattle.row.specs.Answer.{at}
 use Rattle.row.specs.Excess.{E}
-use Rattle.row.specs.Search.{before}
-use Rattle.row.specs.Tree.{OneTree}
-use Rattle.calls.specs.Composed.{defined}
-use Rattle.calls.specs.Searches.{outward}
-use Rattle.family.specs.Family.{parent}
-use Rattle.demands.specs.Handles.{Handle, childOf}
-use Rattle.demands.proofs.Nexts.{Near, nearest}
-use Rattle.demands.proofs.Turns.{turn, opens-low, opens-up, stayed}
-use Rattle.demands.proofs.Closing.{Closed, closing, bwd-prev, E-zero}
+use Rattle.row.specs.Search.{excessBefore}
+use Rattle.row.specs.Tree.{OneTree, Handle}
+use Rattle.bp_spec.specs.SearchPair.{defined}
+use Rattle.bp_spec.specs.SearchCalls.{outward}
+use Rattle.bp_spec.specs.AncestorCalls.{parent}
+use Rattle.demands.specs.Handles.{childOf}
+use Rattle.demands.proofs.Neighbours.{NearestBelow, nearest}
+use Rattle.demands.proofs.Depths.{turn, opens-up, stayed}
+use Rattle.row.proofs.Tree.{opens-low}
+use Rattle.demands.proofs.Closes.{Closed, closing, bwd-prev, E-zero}
 use Rattle.demands.proofs.Children.{kid, is-kid}
 
 -- u is the one handle of which w is a child, and the parent by definition
@@ -39,7 +40,7 @@ pub record Parent (ws : List ℕ) (n w u : ℕ) : Type 0 where
 module _ (ws : List ℕ) (n : ℕ) (t : OneTree ws n) where
   -- where the excess is that before the parent
   abbrev above : ℕ → ℕ → Bool
-  above w = before (E ws) (E ws w +ℤ negsuc 0)
+  above w = excessBefore (E ws) (E ws w +ℤ negsuc 0)
 
   module _ (w : ℕ) (o : Handle ws n w) (l : w < n) where
     -- from the last such place on the excess stays over it
@@ -50,7 +51,7 @@ module _ (ws : List ℕ) (n : ℕ) (t : OneTree ws n) where
         let z = stayed ws n r (w - y) y w (omega arith) (omega arith) (omega zsum) (λ x b m. eqZ-false (E ws x) r (f x b m)) in
         omega zsum
 
-    module _ (u : ℕ) (h : Near (above w) w u) (left : u < w) (q : E ws u +ℤ pos 1 ≡ E ws w) where
+    module _ (u : ℕ) (h : NearestBelow (above w) w u) (left : u < w) (q : E ws u +ℤ pos 1 ≡ E ws w) where
       within : (y : ℕ) → u < y → y ≤ w → E ws w ≤ℤ E ws y
       within y a b = over y b (λ x c m. h .rest x (omega arith) m)
 
@@ -90,7 +91,7 @@ module _ (ws : List ℕ) (n : ℕ) (t : OneTree ws n) where
       l : w < n
       l = opens-low ws n w o
 
-      go : ((j : ℕ) × Near (above w) w j) ⊎ ((y : ℕ) → y < w → above w y ≡ false) → (u : ℕ) × Parent ws n w u
+      go : ((j : ℕ) × NearestBelow (above w) w j) ⊎ ((y : ℕ) → y < w → above w y ≡ false) → (u : ℕ) × Parent ws n w u
       go (inr f) = let a = over w o l 0 (omega arith) (λ x b m. f x m) in let b = t .above w z l in absurd (omega (zsum, E-zero ws n))
       go (inl (u, h)) =
           let r = h .low in

@@ -11,9 +11,10 @@ use Rattle.row.specs.Excess.{sign, excess, E}
 use Rattle.row.specs.Search.{least, greatest, fwd, bwd}
 use Rattle.row.specs.Tree.{opens, OneTree, allBelow, oneTree}
 use Rattle.row.proofs.Tree.{oneTree-true}
-use Rattle.ends.specs.Ends.{ones, levelRightmost, lastStart, rightmostDefined}
-use Rattle.demands.specs.Questions.{levelPrev, levelRightmost as rightmost, definition}
-use Rattle.demands.specs.Listing.{those, Names}
+use Rattle.bp_spec.specs.LevelEnds.{ones, levelRightmost, lastStart, rightmostDefined}
+use Rattle.bp_spec.specs.declared.question.Question.the-variants.{LevelPrev, LevelRightmost as rightmost}
+use Rattle.bp_spec.specs.Questions.{definition}
+use Rattle.demands.specs.Lists.{those, Names}
 use Rattle.demands.specs.Handles.{atDepth, childOf, level, children}
 
 abbrev pub T : List ℕ
@@ -48,6 +49,6 @@ unfolding those atDepth opens excess sign eqZ
 O-level = refl
 
 -- nothing at once, though the root stands at depth 0
-pub O-falls : Names (definition O 2) levelPrev (rightmost 0) []
+pub O-falls : Names (definition O 2) LevelPrev (rightmost 0) []
 unfolding rightmostDefined levelRightmost ones lastStart excess sign eqZ bwd greatest
 O-falls = refl

@@ -12,26 +12,28 @@ use lib.IntN.{ℤ}
 use lib.ListN.{length, drop, length-append, length-drop}
 use lib.Seq.{drop-at}
 use Rattle.ints.proofs.Linear.{never-true}
-use Rattle.row.specs.declared.gate.Gate.the-variants.{Open}
+use Rattle.row.specs.declared.gate.Gate.the-variants.{Pass}
 use Rattle.row.specs.Answer.{Answer, at, nothing, refused}
 use Rattle.row.specs.Gates.{rowGate}
 use Rattle.row.specs.Search.{fwd, bwd}
 use Rattle.row.specs.Tree.{OneTree, oneTree}
 use Rattle.row.specs.Way.{forward, backward}
-use Rattle.row.proofs.Gates.{row-open}
+use Rattle.row.proofs.Gates.{row-passed}
 use Rattle.row.proofs.Meaning.{IsFwd, IsBwd, fwd-is, bwd-is}
 use Rattle.row.proofs.Tree.{oneTree-true, oneTree-yes}
-use Rattle.tree.specs.OneTree.{oneTreeAnswer}
-use Rattle.layout.specs.Layout.{width, count, nodesGate, Fine}
-use Rattle.node.specs.Nodes.{AsBuilt, written}
-use Rattle.mmt.specs.Build.{builtNodes}
-use Rattle.mmt.specs.Check.{builtTest, asBuiltAnswer}
-use Rattle.layout.proofs.Admitted.{fine-gate}
-use Rattle.node.proofs.Written.{written-length, written-built}
-use Rattle.mmt.proofs.Tested.{built-true, built-yes}
-use Rattle.demands.specs.Questions.{fwdSearch, bwdSearch, promised}
+use Rattle.one_tree.specs.OneTree.{oneTreeAnswer}
+use Rattle.mmt_layout.specs.Layout.{width, count, nodesGate, Fine}
+use Rattle.mmt_node.specs.Nodes.{AsBuilt, written}
+use Rattle.mmt_build.specs.Build.{builtNodes}
+use Rattle.mmt_build.specs.Check.{builtTest, asBuiltAnswer}
+use Rattle.mmt_layout.proofs.Admitted.{fine-gate}
+use Rattle.mmt_node.proofs.Written.{written-length, written-built}
+use Rattle.mmt_build.proofs.Tested.{built-true, built-yes}
+use Rattle.bp_spec.specs.declared.question.Question.the-variants.{FwdSearch, BwdSearch}
+use Rattle.bp_spec.specs.Questions.{promised}
 use Rattle.demands.specs.Second.{Builds, Tells, Nearest, Answers, Second}
-use Rattle.demands.proofs.Equal.{equal, only-five}
+use Rattle.bp_spec.proofs.CallsAgree.{equal}
+use Rattle.bp_spec.proofs.DefinitionRange.{only-five}
 
 -- ---- a test that decides
 tells : (fact : Type 0) (t : Bool) → (t ≡ true → fact) → (fact → t ≡ true) → Tells fact (cond t (at 1) (at 0))
@@ -51,16 +53,16 @@ tells fact false f g = record {
 tells-tree : (ws : List ℕ) (n : ℕ) → n ≤ 4294967296 → n ≤ 64 * length ws → Tells (OneTree ws n) (oneTreeAnswer ws n)
 unfolding oneTreeAnswer
 tells-tree ws n h k =
-    let o : rowGate (length ws) n ≡ Open = sym (row-open (length ws) n h (omega arith)) in
+    let o : rowGate (length ws) n ≡ Pass = sym (row-passed (length ws) n h (omega arith)) in
     rw o (tells (OneTree ws n) (oneTree ws n) (oneTree-true ws n) (oneTree-yes ws n))
 
 module _ (ws : List ℕ) (n : ℕ) (s : List ℤ) (B : ℕ) (fine : Fine (length ws) n (length s) B) where
-  gate : nodesGate (length ws) n (length s) B ≡ Open
+  gate : nodesGate (length ws) n (length s) B ≡ Pass
   gate = fine-gate (length ws) n (length s) B fine
 
-  tells-built : Tells (AsBuilt ws n B s) (asBuiltAnswer ws n s B)
+  tells-built : Tells (AsBuilt ws n s B) (asBuiltAnswer ws n s B)
   unfolding asBuiltAnswer
-  tells-built = rw gate (tells (AsBuilt ws n B s) (builtTest ws n B s) (built-true ws n B s (fine .nodes)) (built-yes ws n B s))
+  tells-built = rw gate (tells (AsBuilt ws n s B) (builtTest ws n s B) (built-true ws n s B (fine .nodes)) (built-yes ws n s B))
 
   -- ---- the build
   left : builtNodes ws n s B ≡ written ws n B ++ drop (width * count n B) s
@@ -99,12 +101,12 @@ module _ (ws : List ℕ) (n i : ℕ) (r : ℤ) where
   near-backward : Nearest backward ws n i r (bwd ws n i r)
   near-backward = behind-of (bwd ws n i r) (bwd-is ws n i r)
 
-answers : (ws : List ℕ) (n : ℕ) (s : List ℤ) (B : ℕ) → Fine (length ws) n (length s) B → AsBuilt ws n B s → Answers ws n (promised ws n s B)
+answers : (ws : List ℕ) (n : ℕ) (s : List ℤ) (B : ℕ) → Fine (length ws) n (length s) B → AsBuilt ws n s B → Answers ws n (promised ws n s B)
 answers ws n s B fine built = record {
   equal = equal ws n s B fine built;
   fitting = λ q e. let z = only-five ws n q 8 (sym (equal ws n s B fine built q) ∙ e) in omega arith;
-  ahead = λ i r. rw (equal ws n s B fine built (fwdSearch i r)) (near-forward ws n i r);
-  behind = λ i r. rw (equal ws n s B fine built (bwdSearch i r)) (near-backward ws n i r);
+  ahead = λ i r. rw (equal ws n s B fine built (FwdSearch i r)) (near-forward ws n i r);
+  behind = λ i r. rw (equal ws n s B fine built (BwdSearch i r)) (near-backward ws n i r);
 }
 
 pub second : Second

@@ -15,22 +15,21 @@ use lib.ListN.{length, take, drop, length-append, List·getD-append}
 use lib.Seq.{take-at}
 use denote.Ref.{RefT, now}
 use Rattle.row.specs.declared.gate.Gate.{Gate}
-use Rattle.row.specs.declared.gate.Gate.the-variants.{Open, Shut}
+use Rattle.row.specs.declared.gate.Gate.the-variants.{Pass, Refuse}
 use Rattle.row.specs.Answer.{Answer, at}
 use Rattle.row.specs.Gates.{wordsFor, rowGate, andThen, through}
 use Rattle.row.proofs.Surplus.{Same, words-beyond}
-use Rattle.layout.specs.Layout.{width, count, blockGate, roomGate, nodesGate}
-use Rattle.node.specs.Nodes.{nodeAt, written}
-use Rattle.mmt.specs.Build.{builtNodes}
-use Rattle.node.proofs.Written.{written-length}
-use Rattle.seek.specs.Sought.{sought, making, begun, after}
-use Rattle.listing.specs.Listing.{Listing}
-use Rattle.listing.specs.Steps.{answerAt}
-use Rattle.demands.specs.First.{buildAnswer}
+use Rattle.mmt_layout.specs.Layout.{width, count, blockGate, roomGate, nodesGate}
+use Rattle.mmt_node.specs.Nodes.{nodeAt, written}
+use Rattle.mmt_build.specs.Build.{builtNodes, buildAnswer}
+use Rattle.mmt_node.proofs.Written.{written-length}
+use Rattle.list_slice.specs.Seek.{sought, making, begun, heldAfter}
+use Rattle.list_struct.specs.Listing.{Listing}
+use Rattle.list_struct.specs.Steps.{answerAt}
 use Rattle.demands.specs.Surplus.{SameRow, Roomy, SameNodes, SameListing, Surplus}
-use Rattle.demands.proofs.Unread.{Alike}
-use Rattle.demands.proofs.Likewise.{written-same}
-use Rattle.demands.proofs.Alike.{RowAlike, NodesAlike, tree-same, test-same, sought-same, after-same, count-same, left-same, answers-same}
+use Rattle.demands.proofs.SameWalk.{Alike}
+use Rattle.demands.proofs.SameCalls.{written-same}
+use Rattle.demands.proofs.SameAnswers.{RowAlike, NodesAlike, tree-same, test-same, sought-same, after-same, count-same, left-same, answers-same}
 
 -- ---- the tests: both have room
 row-same : (ws vs : List ℕ) (n : ℕ) → SameRow ws vs n → rowGate (length ws) n ≡ rowGate (length vs) n
@@ -80,9 +79,9 @@ done-same : (ws vs : List ℕ) (n : ℕ) (s t : List ℤ) (B : ℕ) → SameRow 
 done-same ws vs n s t B same room = ap (λ (g : Gate). through g (at 0)) (nodes-gate-same ws vs n s t B same room)
 
 -- an answer that is no refusal comes through an open gate
-open-at : (g : Gate) → through g (at 0) ≡ at 0 → g ≡ Open
-open-at Open e = refl
-open-at (Shut k) e = let z : _≡_ {A = ℕ} 0 1 = cc in absurd (omega arith)
+open-at : (g : Gate) → through g (at 0) ≡ at 0 → g ≡ Pass
+open-at Pass e = refl
+open-at (Refuse k) e = let z : _≡_ {A = ℕ} 0 1 = cc in absurd (omega arith)
 
 front : (ws : List ℕ) (n : ℕ) (s : List ℤ) (B : ℕ) → buildAnswer ws n s B ≡ at 0 → take (width * count n B) (builtNodes ws n s B) ≡ written ws n B
 unfolding builtNodes
@@ -100,7 +99,7 @@ module _ (rising : Bool) (ws vs : RefT (List ℕ)) (n : ℕ) (s t : RefT (List �
   unfolding answerAt
   step-same zero a = refl
   step-same (suc k) a =
-      step-same k (after rising (now ws) n (now s) B a)
+      step-same k (heldAfter rising (now ws) n (now s) B a)
       ∙ ap (λ (b : Answer). answerAt k (with vs t b)) (after-same (now ws) (now vs) n (now s) (now t) B same rising a)
 
   listing-same : (v : ℕ) → SameListing rising ws vs n s t B v

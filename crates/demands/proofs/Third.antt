@@ -17,25 +17,28 @@ use Rattle.ints.proofs.Shapes.{zsum}
 use Rattle.row.specs.Answer.{Answer}
 use Rattle.row.specs.Excess.{E}
 use Rattle.row.specs.Gates.{handleGate, through}
-use Rattle.row.specs.Tree.{OneTree}
-use Rattle.layout.specs.Layout.{Fine}
-use Rattle.node.specs.Nodes.{AsBuilt}
-use Rattle.mmt.specs.Build.{builtNodes}
-use Rattle.calls.specs.Composed.{Searches, defined}
-use Rattle.calls.specs.Handles.{nodeDefined}
-use Rattle.handle.specs.Bare as handle
-use Rattle.family.specs.Family as family
-use Rattle.sibling.specs.Siblings as sibling
-use Rattle.level.specs.Levels as level
-use Rattle.ends.specs.Ends.{rightmostDefined}
-use Rattle.demands.specs.Questions.{Question, parent, firstChild, lastChild, nextSibling, previousSibling, levelNext, levelPrev, levelLeftmost, levelRightmost, promised, definition}
-use Rattle.demands.specs.Handles.{Handle, atDepth, childOf, children}
+use Rattle.row.specs.Tree.{OneTree, Handle}
+use Rattle.mmt_layout.specs.Layout.{Fine}
+use Rattle.mmt_node.specs.Nodes.{AsBuilt}
+use Rattle.mmt_build.specs.Build.{builtNodes}
+use Rattle.bp_spec.specs.SearchPair.{Searches, defined}
+use Rattle.bp_spec.specs.HandleCalls.{nodeDefined}
+use Rattle.bp_spec.specs.RowCalls as handle
+use Rattle.bp_spec.specs.AncestorCalls as family
+use Rattle.bp_spec.specs.SiblingCalls as sibling
+use Rattle.bp_spec.specs.LevelCalls as level
+use Rattle.bp_spec.specs.LevelEnds.{rightmostDefined}
+use Rattle.bp_spec.specs.declared.question.Question.{Question}
+use Rattle.bp_spec.specs.declared.question.Question.the-variants.{Parent, FirstChild, LastChild, NextSibling, PreviousSibling, LevelNext, LevelPrev, LevelLeftmost, LevelRightmost}
+use Rattle.bp_spec.specs.Questions.{promised, definition}
+use Rattle.demands.specs.Handles.{atDepth, childOf, children}
 use Rattle.demands.specs.Third.{Tours, Third}
-use Rattle.demands.proofs.Nexts.{next-none}
-use Rattle.demands.proofs.Named.{rises, falls}
-use Rattle.demands.proofs.Exact.{among, among-has, exact, none-those}
-use Rattle.demands.proofs.Turns.{stands, not-depth, opens-low}
-use Rattle.demands.proofs.Closing.{closing}
+use Rattle.demands.proofs.Neighbours.{next-none}
+use Rattle.demands.proofs.CallChains.{rises, falls}
+use Rattle.demands.proofs.ExactLists.{among, among-has, exact, none-those}
+use Rattle.demands.proofs.Depths.{stands, not-depth}
+use Rattle.row.proofs.Tree.{opens-low}
+use Rattle.demands.proofs.Closes.{closing}
 use Rattle.demands.proofs.Levels.{leftmost, rightmost, level-next, level-prev}
 use Rattle.demands.proofs.Children.{kid, first-child, next-sibling, last-child, previous-sibling}
 use Rattle.demands.proofs.Parents.{parent-of, root-no-child}
@@ -64,23 +67,23 @@ module _ (ws : List ℕ) (n : ℕ) where
     pub tours-defined : Tours ws n ask
     unfolding rightmostDefined
     tours-defined = record {
-      level-rises = λ k. rises (atDepth ws n (pos k)) ask levelNext n (levelLeftmost k) (is (levelLeftmost k) ∙ leftmost ws n t k)
-          (λ v h. by (levelNext v) level.levelNext v refl (stands ws n (pos k) v h .open-is) ∙ level-next ws n t (pos k) v h);
-      level-falls = λ l k. falls (atDepth ws n (pos k)) ask levelPrev n (levelRightmost k) (is (levelRightmost k) ∙ rightmost ws n t k l)
-          (λ v h. by (levelPrev v) level.levelPrev v refl (stands ws n (pos k) v h .open-is) ∙ level-prev ws n t (pos k) v h);
+      level-rises = λ k. rises (atDepth ws n (pos k)) ask LevelNext n (LevelLeftmost k) (is (LevelLeftmost k) ∙ leftmost ws n t k)
+          (λ v h. by (LevelNext v) level.levelNext v refl (stands ws n (pos k) v h .open-is) ∙ level-next ws n t (pos k) v h);
+      level-falls = λ l k. falls (atDepth ws n (pos k)) ask LevelPrev n (LevelRightmost k) (is (LevelRightmost k) ∙ rightmost ws n t k l)
+          (λ v h. by (LevelPrev v) level.levelPrev v refl (stands ws n (pos k) v h .open-is) ∙ level-prev ws n t (pos k) v h);
       too-deep = λ k f. (
         none-those (atDepth ws n (pos k)) n 0 (λ v a b. shallow k f v),
-        is (levelLeftmost k) ∙ leftmost ws n t k ∙ next-none (atDepth ws n (pos k)) n 0 (λ v a b. shallow k f v),
+        is (LevelLeftmost k) ∙ leftmost ws n t k ∙ next-none (atDepth ws n (pos k)) n 0 (λ v a b. shallow k f v),
       );
       children-rise = λ v o.
           let (e, d) = closing ws n t v o in
-          rises (childOf ws n v) ask nextSibling n (firstChild v)
-          (is (firstChild v) ∙ passed v (handle.firstChild ws n v) o ∙ first-child ws n t v e o d)
-          (λ w h. by (nextSibling w) sibling.nextSibling w refl (kid ws n t v e o d w h .open-is) ∙ next-sibling ws n t v e o d w h);
+          rises (childOf ws n v) ask NextSibling n (FirstChild v)
+          (is (FirstChild v) ∙ passed v (handle.firstChild ws n v) o ∙ first-child ws n t v e o d)
+          (λ w h. by (NextSibling w) sibling.nextSibling w refl (kid ws n t v e o d w h .open-is) ∙ next-sibling ws n t v e o d w h);
       children-fall = λ v o.
           let (e, d) = closing ws n t v o in
-          falls (childOf ws n v) ask previousSibling n (lastChild v) (by (lastChild v) sibling.lastChild v refl o ∙ last-child ws n t v e o d)
-          (λ w h. by (previousSibling w) sibling.previousSibling w refl (kid ws n t v e o d w h .open-is) ∙ previous-sibling ws n t v e o d w h);
+          falls (childOf ws n v) ask PreviousSibling n (LastChild v) (by (LastChild v) sibling.lastChild v refl o ∙ last-child ws n t v e o d)
+          (λ w h. by (PreviousSibling w) sibling.previousSibling w refl (kid ws n t v e o d w h .open-is) ∙ previous-sibling ws n t v e o d w h);
       one-parent = λ w o h.
           let (u, p) = parent-of ws n t w o h in
           let l = opens-low ws n w o in (
@@ -89,13 +92,13 @@ module _ (ws : List ℕ) (n : ℕ) where
               handle = p .open-is;
               child = among (childOf ws n u) w n 0 (omega arith) (omega arith) (p .child);
               only = λ v q m. p .only v q (among-has (childOf ws n v) w n 0 m .passes);
-              named = by (parent w) family.parent w refl o ∙ p .is;
+              named = by (Parent w) family.parent w refl o ∙ p .is;
             },
           );
       root-none = λ v m. never-true (sym (root-no-child ws n t v) ∙ among-has (childOf ws n v) 0 n 0 m .passes);
     }
 
-alike : (ws : List ℕ) (n : ℕ) (s : List ℤ) (B : ℕ) → Fine (length ws) n (length s) B → OneTree ws n → AsBuilt ws n B s
+alike : (ws : List ℕ) (n : ℕ) (s : List ℤ) (B : ℕ) → Fine (length ws) n (length s) B → OneTree ws n → AsBuilt ws n s B
     → Tours ws n (promised ws n s B)
 alike ws n s B fine t built = tours-defined ws n t (promised ws n s B) (second .over-alike ws n s B fine built .equal)
 

@@ -5,8 +5,10 @@ use mathlib.Core.List.{List, [], _∷_, map}
 use Prim.Native.Nat.{ℕ}
 use lib.IntN.{pos, negsuc}
 use Rattle.row.specs.Answer.{Answer, at, nothing}
-use Rattle.node.specs.Nodes.{written}
-use Rattle.demands.specs.Questions.{Question, fwdSearch, bwdSearch, enclose, levelAncestor, levelNext, levelPrev, levelRightmost, promised, definition}
+use Rattle.mmt_node.specs.Nodes.{written}
+use Rattle.bp_spec.specs.declared.question.Question.{Question}
+use Rattle.bp_spec.specs.declared.question.Question.the-variants.{FwdSearch, BwdSearch, Enclose, LevelAncestor, LevelNext, LevelPrev, LevelRightmost}
+use Rattle.bp_spec.specs.Questions.{promised, definition}
 
 -- a row of n bits, a question on it, and the answer that it is to have
 pub record Case : Type 0 where
@@ -27,24 +29,24 @@ onPair q a = record { words = 1 ∷ []; bits = 2; question = q; answer = a }
 unfoldable pub table : List Case
 table =
     -- a, b, c, d
-    onT (fwdSearch 0 (negsuc 0)) (at 7)
-    ∷ onT (fwdSearch 0 (pos 1)) (at 1)
-    ∷ onT (fwdSearch 2 (pos 0)) (at 6)
-    ∷ onT (fwdSearch 7 (negsuc 0)) nothing
+    onT (FwdSearch 0 (negsuc 0)) (at 7)
+    ∷ onT (FwdSearch 0 (pos 1)) (at 1)
+    ∷ onT (FwdSearch 2 (pos 0)) (at 6)
+    ∷ onT (FwdSearch 7 (negsuc 0)) nothing
     -- e, f
-    ∷ onT (bwdSearch 7 (pos 0)) (at 3)
-    ∷ onT (bwdSearch 4 (pos 1)) nothing
+    ∷ onT (BwdSearch 7 (pos 0)) (at 3)
+    ∷ onT (BwdSearch 4 (pos 1)) nothing
     -- g, h, i
-    ∷ onT (enclose 6) (at 0)
-    ∷ onT (levelNext 1) (at 3)
-    ∷ onT (levelPrev 3) (at 1)
+    ∷ onT (Enclose 6) (at 0)
+    ∷ onT (LevelNext 1) (at 3)
+    ∷ onT (LevelPrev 3) (at 1)
     -- j
-    ∷ onT (levelAncestor 4 2) (at 0)
-    ∷ onT (levelAncestor 4 3) nothing
+    ∷ onT (LevelAncestor 4 2) (at 0)
+    ∷ onT (LevelAncestor 4 3) nothing
     -- k, l
-    ∷ onT (levelRightmost 2) (at 4)
-    ∷ onT (levelRightmost 0) (at 0)
-    ∷ onPair (levelRightmost 0) nothing
+    ∷ onT (LevelRightmost 2) (at 4)
+    ∷ onT (LevelRightmost 0) (at 0)
+    ∷ onPair (LevelRightmost 0) nothing
     ∷ []
 
 -- what the definition gives for a case, and what the call gives over the nodes that a build writes for blocks of 8

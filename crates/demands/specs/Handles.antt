@@ -1,6 +1,5 @@
 -- Handles by their depth, and the children of a handle, on a row that is one tree.
 -- Assumes nothing.
-use mathlib.Core.Path.{_≡_}
 use mathlib.Core.Bool.{Bool, true, false, _&&_}
 use mathlib.Core.List.{List}
 use Prim.Native.Nat.{ℕ}
@@ -11,11 +10,7 @@ use Rattle.row.specs.Answer.{Answer, at, nothing, refused}
 use Rattle.row.specs.Excess.{E}
 use Rattle.row.specs.Search.{fwd}
 use Rattle.row.specs.Tree.{opens}
-use Rattle.demands.specs.Listing.{those}
-
--- a handle is an open position below n
-abbrev pub Handle : List ℕ → ℕ → ℕ → Type 0
-Handle ws n v = opens ws n v ≡ true
+use Rattle.demands.specs.Lists.{those}
 
 -- v is a handle of depth k; a handle v has depth E(v)
 unfoldable pub atDepth : List ℕ → ℕ → ℤ → ℕ → Bool

@@ -1,9 +1,8 @@
-pub mod Questions
-pub mod Listing
+pub mod Lists
 pub mod Handles
 pub mod First
 pub mod Second
 pub mod Third
 pub mod Cases
-pub mod Worth
+pub mod Uniqueness
 pub mod Surplus

@@ -13,18 +13,19 @@ use Rattle.row.specs.Answer.{Answer, at, nothing, refused}
 use Rattle.row.specs.Excess.{E}
 use Rattle.row.specs.Tree.{OneTree}
 use Rattle.row.specs.Way.{Way, forward, backward, Before}
-use Rattle.tree.specs.OneTree.{oneTreeAnswer}
-use Rattle.layout.specs.Layout.{width, count, Fine}
-use Rattle.node.specs.Nodes.{AsBuilt}
-use Rattle.mmt.specs.Build.{builtNodes}
-use Rattle.mmt.specs.Check.{asBuiltAnswer}
-use Rattle.demands.specs.Questions.{Question, fwdSearch, bwdSearch, promised, definition}
-use Rattle.demands.specs.First.{buildAnswer}
+use Rattle.one_tree.specs.OneTree.{oneTreeAnswer}
+use Rattle.mmt_layout.specs.Layout.{width, count, Fine}
+use Rattle.mmt_node.specs.Nodes.{AsBuilt}
+use Rattle.mmt_build.specs.Build.{builtNodes, buildAnswer}
+use Rattle.mmt_build.specs.Check.{asBuiltAnswer}
+use Rattle.bp_spec.specs.declared.question.Question.{Question}
+use Rattle.bp_spec.specs.declared.question.Question.the-variants.{FwdSearch, BwdSearch}
+use Rattle.bp_spec.specs.Questions.{promised, definition}
 
 -- the build is done; the buffer begins with the nodes, is as long as it was, and keeps what stood past the nodes
 pub record Builds (ws : List ℕ) (n : ℕ) (s : List ℤ) (B : ℕ) : Type 0 where
   pub done : buildAnswer ws n s B ≡ at 0
-  pub nodes : AsBuilt ws n B (builtNodes ws n s B)
+  pub nodes : AsBuilt ws n (builtNodes ws n s B) B
   pub same : length (builtNodes ws n s B) ≡ length s
   pub past : drop (width * count n B) (builtNodes ws n s B) ≡ drop (width * count n B) s
 
@@ -50,13 +51,13 @@ Nearest w ws n i r (refused k) = ⊥
 pub record Answers (ws : List ℕ) (n : ℕ) (ask : Question → Answer) : Type 0 where
   pub equal : (q : Question) → ask q ≡ definition ws n q
   pub fitting : (q : Question) → ask q ≡ refused 8 → ⊥
-  pub ahead : (i : ℕ) (r : ℤ) → Nearest forward ws n i r (ask (fwdSearch i r))
-  pub behind : (i : ℕ) (r : ℤ) → Nearest backward ws n i r (ask (bwdSearch i r))
+  pub ahead : (i : ℕ) (r : ℤ) → Nearest forward ws n i r (ask (FwdSearch i r))
+  pub behind : (i : ℕ) (r : ℤ) → Nearest backward ws n i r (ask (BwdSearch i r))
 
 -- the demand
 pub record Second : Type 0 where
   pub builds : (ws : List ℕ) (n : ℕ) (s : List ℤ) (B : ℕ) → Fine (length ws) n (length s) B → Builds ws n s B
   pub one-tree : (ws : List ℕ) (n : ℕ) → n ≤ 4294967296 → n ≤ 64 * length ws → Tells (OneTree ws n) (oneTreeAnswer ws n)
-  pub as-built : (ws : List ℕ) (n : ℕ) (s : List ℤ) (B : ℕ) → Fine (length ws) n (length s) B → Tells (AsBuilt ws n B s) (asBuiltAnswer ws n s B)
+  pub as-built : (ws : List ℕ) (n : ℕ) (s : List ℤ) (B : ℕ) → Fine (length ws) n (length s) B → Tells (AsBuilt ws n s B) (asBuiltAnswer ws n s B)
   pub over-built : (ws : List ℕ) (n : ℕ) (s : List ℤ) (B : ℕ) → Fine (length ws) n (length s) B → Answers ws n (promised ws n (builtNodes ws n s B) B)
-  pub over-alike : (ws : List ℕ) (n : ℕ) (s : List ℤ) (B : ℕ) → Fine (length ws) n (length s) B → AsBuilt ws n B s → Answers ws n (promised ws n s B)
+  pub over-alike : (ws : List ℕ) (n : ℕ) (s : List ℤ) (B : ℕ) → Fine (length ws) n (length s) B → AsBuilt ws n s B → Answers ws n (promised ws n s B)

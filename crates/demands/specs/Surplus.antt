@@ -12,15 +12,16 @@ use lib.ListN.{length, getD, take}
 use denote.Ref.{RefT, now}
 use Rattle.row.specs.Answer.{at}
 use Rattle.row.specs.Bits.{bitAt}
-use Rattle.tree.specs.OneTree.{oneTreeAnswer}
-use Rattle.layout.specs.Layout.{width, count}
-use Rattle.mmt.specs.Build.{builtNodes}
-use Rattle.mmt.specs.Check.{asBuiltAnswer}
-use Rattle.listing.specs.Listing.{made}
-use Rattle.listing.specs.Steps.{answerAt}
-use Rattle.whole.specs.Whole.{countOf, leftOf}
-use Rattle.demands.specs.Questions.{Question, promised}
-use Rattle.demands.specs.First.{kind, buildAnswer}
+use Rattle.one_tree.specs.OneTree.{oneTreeAnswer}
+use Rattle.mmt_layout.specs.Layout.{width, count}
+use Rattle.mmt_build.specs.Build.{builtNodes, buildAnswer}
+use Rattle.mmt_build.specs.Check.{asBuiltAnswer}
+use Rattle.list_struct.specs.Listing.{created}
+use Rattle.list_struct.specs.Steps.{answerAt}
+use Rattle.list_slice.specs.WholeListing.{countOf, leftOf}
+use Rattle.bp_spec.specs.declared.question.Question.{Question}
+use Rattle.bp_spec.specs.Questions.{promised}
+use Rattle.bp_spec.specs.Ranges.{kind}
 
 -- both rows have words enough for n bits, and their first n bits are the same
 pub record SameRow (ws vs : List ℕ) (n : ℕ) : Type 0 where
@@ -38,8 +39,8 @@ pub record SameNodes (s t : List ℤ) (m : ℕ) : Type 0 where
 
 -- a listing of children that is made over the one and the other view: its making and each step answer alike
 pub record SameListing (rising : Bool) (ws vs : RefT (List ℕ)) (n : ℕ) (s t : RefT (List ℤ)) (B v : ℕ) : Type 0 where
-  pub making : made rising ws n s B v .answer ≡ made rising vs n t B v .answer
-  pub step : (k : ℕ) → answerAt k (made rising ws n s B v .listing) ≡ answerAt k (made rising vs n t B v .listing)
+  pub making : created rising ws n s B v .answer ≡ created rising vs n t B v .answer
+  pub step : (k : ℕ) → answerAt k (created rising ws n s B v .listing) ≡ answerAt k (created rising vs n t B v .listing)
 
 pub record Surplus : Type 0 where
   -- each call; one that takes no nodes needs none

@@ -2,5 +2,5 @@
 use libc::STDIN_FILENO;
 
 fn main() {
-    outline::run(STDIN_FILENO);
+    app_levels::run(STDIN_FILENO);
 }

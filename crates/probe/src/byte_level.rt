@@ -1,9 +1,11 @@
 // The calls on levels over byte slices, for rows of up to 4,096 bits.
 // Each is one question, and promises what the call that answers it promises of the words and numbers that the bytes hold.
 ghost use mathlib.Core.Path.{_≡_};
-ghost use Rattle.demands.specs.Questions.{promised, levelAncestor, levelNext, levelPrev, levelLeftmost, levelRightmost};
-ghost use Rattle.asking.specs.Bytes.{byteAnswer};
-use asking::Question;
+ghost use Rattle.bp_spec.specs.declared.question.Question.the-variants.{LevelAncestor, LevelNext, LevelPrev, LevelLeftmost, LevelRightmost};
+ghost use Rattle.bp_spec.specs.Questions.{promised};
+ghost use Rattle.c_dispatch.specs.Bytes.{byteAnswer};
+use bp_spec::Question;
+use c_dispatch::Request;
 
 // level_ancestor(node, level).
 #[no_mangle]
@@ -15,31 +17,43 @@ pub extern "C" fn bp_level_ancestor(
     node: u64,
     level: u64,
 ) -> i64
-    ensures { λ a. ⌜ a ≡ byteAnswer promised (now (row .entry)) bits (now (nodes .entry)) block (levelAncestor node level) ⌝ }
+    ensures { λ a. ⌜ a ≡ byteAnswer promised (now (row .entry)) bits (now (nodes .entry)) block (LevelAncestor node level) ⌝ }
 {
-    asking::over_bytes(
+    c_dispatch::over_bytes(
         row,
         bits,
         nodes,
         block,
-        Question::LevelAncestor(node as usize, level),
+        Request::Call(Question::LevelAncestor(node as usize, level)),
     )
 }
 
 // level_next(node).
 #[no_mangle]
 pub extern "C" fn bp_level_next(row: &[u8], bits: u64, nodes: &[u8], block: u64, node: u64) -> i64
-    ensures { λ a. ⌜ a ≡ byteAnswer promised (now (row .entry)) bits (now (nodes .entry)) block (levelNext node) ⌝ }
+    ensures { λ a. ⌜ a ≡ byteAnswer promised (now (row .entry)) bits (now (nodes .entry)) block (LevelNext node) ⌝ }
 {
-    asking::over_bytes(row, bits, nodes, block, Question::LevelNext(node as usize))
+    c_dispatch::over_bytes(
+        row,
+        bits,
+        nodes,
+        block,
+        Request::Call(Question::LevelNext(node as usize)),
+    )
 }
 
 // level_prev(node).
 #[no_mangle]
 pub extern "C" fn bp_level_prev(row: &[u8], bits: u64, nodes: &[u8], block: u64, node: u64) -> i64
-    ensures { λ a. ⌜ a ≡ byteAnswer promised (now (row .entry)) bits (now (nodes .entry)) block (levelPrev node) ⌝ }
+    ensures { λ a. ⌜ a ≡ byteAnswer promised (now (row .entry)) bits (now (nodes .entry)) block (LevelPrev node) ⌝ }
 {
-    asking::over_bytes(row, bits, nodes, block, Question::LevelPrev(node as usize))
+    c_dispatch::over_bytes(
+        row,
+        bits,
+        nodes,
+        block,
+        Request::Call(Question::LevelPrev(node as usize)),
+    )
 }
 
 // level_leftmost(level).
@@ -51,9 +65,15 @@ pub extern "C" fn bp_level_leftmost(
     block: u64,
     level: u64,
 ) -> i64
-    ensures { λ a. ⌜ a ≡ byteAnswer promised (now (row .entry)) bits (now (nodes .entry)) block (levelLeftmost level) ⌝ }
+    ensures { λ a. ⌜ a ≡ byteAnswer promised (now (row .entry)) bits (now (nodes .entry)) block (LevelLeftmost level) ⌝ }
 {
-    asking::over_bytes(row, bits, nodes, block, Question::LevelLeftmost(level))
+    c_dispatch::over_bytes(
+        row,
+        bits,
+        nodes,
+        block,
+        Request::Call(Question::LevelLeftmost(level)),
+    )
 }
 
 // level_rightmost(level).
@@ -65,7 +85,13 @@ pub extern "C" fn bp_level_rightmost(
     block: u64,
     level: u64,
 ) -> i64
-    ensures { λ a. ⌜ a ≡ byteAnswer promised (now (row .entry)) bits (now (nodes .entry)) block (levelRightmost level) ⌝ }
+    ensures { λ a. ⌜ a ≡ byteAnswer promised (now (row .entry)) bits (now (nodes .entry)) block (LevelRightmost level) ⌝ }
 {
-    asking::over_bytes(row, bits, nodes, block, Question::LevelRightmost(level))
+    c_dispatch::over_bytes(
+        row,
+        bits,
+        nodes,
+        block,
+        Request::Call(Question::LevelRightmost(level)),
+    )
 }

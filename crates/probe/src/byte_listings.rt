@@ -2,7 +2,7 @@
 // nothing or until out has no room for eight more; what stood past them stays. A refused making leaves all bytes.
 ghost use mathlib.Core.Path.{_≡_};
 ghost use mathlib.Core.Bool.{true, false};
-ghost use Rattle.lists.specs.Listings.{listWire, listLeft};
+ghost use Rattle.c_listings.specs.Listings.{listWire, listLeft};
 
 // The children of a node, from the first to the last.
 #[no_mangle]
@@ -17,7 +17,7 @@ pub extern "C" fn bp_children(
     ensures { λ a. ⌜ a ≡ listWire true (now (row .entry)) bits (now (nodes .entry)) block node (now (out .entry)) ⌝ }
     ensures { λ a. ⌜ now (out .exit) ≡ listLeft true (now (row .entry)) bits (now (nodes .entry)) block node (now (out .entry)) ⌝ }
 {
-    lists::to_bytes(row, bits, nodes, block, true, node, out)
+    c_listings::to_bytes(row, bits, nodes, block, true, node, out)
 }
 
 // The children of a node, from the last to the first.
@@ -33,5 +33,5 @@ pub extern "C" fn bp_rev_children(
     ensures { λ a. ⌜ a ≡ listWire false (now (row .entry)) bits (now (nodes .entry)) block node (now (out .entry)) ⌝ }
     ensures { λ a. ⌜ now (out .exit) ≡ listLeft false (now (row .entry)) bits (now (nodes .entry)) block node (now (out .entry)) ⌝ }
 {
-    lists::to_bytes(row, bits, nodes, block, false, node, out)
+    c_listings::to_bytes(row, bits, nodes, block, false, node, out)
 }

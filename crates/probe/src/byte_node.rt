@@ -1,61 +1,79 @@
 // The calls on nodes over byte slices, for rows of up to 4,096 bits.
 // Each is one question, and promises what the call that answers it promises of the words and numbers that the bytes hold.
 ghost use mathlib.Core.Path.{_≡_};
-ghost use Rattle.demands.specs.Questions.{promised, root, firstChild, isLeaf, parent, lastChild, nextSibling, previousSibling};
-ghost use Rattle.asking.specs.Bytes.{byteAnswer, rowAnswer};
-use asking::Question;
+ghost use Rattle.bp_spec.specs.declared.question.Question.the-variants.{Root, FirstChild, IsLeaf, Parent, LastChild, NextSibling, PreviousSibling};
+ghost use Rattle.bp_spec.specs.Questions.{promised};
+ghost use Rattle.c_dispatch.specs.Bytes.{byteAnswer, rowAnswer};
+use bp_spec::Question;
+use c_dispatch::Request;
 
 // root(): 0, nothing on the empty row.
 #[no_mangle]
 pub extern "C" fn bp_root(row: &[u8], bits: u64) -> i64
-    ensures { λ a. ⌜ a ≡ rowAnswer promised (now (row .entry)) bits root ⌝ }
+    ensures { λ a. ⌜ a ≡ rowAnswer promised (now (row .entry)) bits Root ⌝ }
 {
-    asking::over_row(row, bits, Question::Root)
+    c_dispatch::over_row(row, bits, Request::Call(Question::Root))
 }
 
 // first_child(node).
 #[no_mangle]
 pub extern "C" fn bp_first_child(row: &[u8], bits: u64, node: u64) -> i64
-    ensures { λ a. ⌜ a ≡ rowAnswer promised (now (row .entry)) bits (firstChild node) ⌝ }
+    ensures { λ a. ⌜ a ≡ rowAnswer promised (now (row .entry)) bits (FirstChild node) ⌝ }
 {
-    asking::over_row(row, bits, Question::FirstChild(node as usize))
+    c_dispatch::over_row(
+        row,
+        bits,
+        Request::Call(Question::FirstChild(node as usize)),
+    )
 }
 
 // is_leaf(node): 1 or 0.
 #[no_mangle]
 pub extern "C" fn bp_is_leaf(row: &[u8], bits: u64, node: u64) -> i64
-    ensures { λ a. ⌜ a ≡ rowAnswer promised (now (row .entry)) bits (isLeaf node) ⌝ }
+    ensures { λ a. ⌜ a ≡ rowAnswer promised (now (row .entry)) bits (IsLeaf node) ⌝ }
 {
-    asking::over_row(row, bits, Question::IsLeaf(node as usize))
+    c_dispatch::over_row(row, bits, Request::Call(Question::IsLeaf(node as usize)))
 }
 
 // parent(node).
 #[no_mangle]
 pub extern "C" fn bp_parent(row: &[u8], bits: u64, nodes: &[u8], block: u64, node: u64) -> i64
-    ensures { λ a. ⌜ a ≡ byteAnswer promised (now (row .entry)) bits (now (nodes .entry)) block (parent node) ⌝ }
+    ensures { λ a. ⌜ a ≡ byteAnswer promised (now (row .entry)) bits (now (nodes .entry)) block (Parent node) ⌝ }
 {
-    asking::over_bytes(row, bits, nodes, block, Question::Parent(node as usize))
+    c_dispatch::over_bytes(
+        row,
+        bits,
+        nodes,
+        block,
+        Request::Call(Question::Parent(node as usize)),
+    )
 }
 
 // last_child(node).
 #[no_mangle]
 pub extern "C" fn bp_last_child(row: &[u8], bits: u64, nodes: &[u8], block: u64, node: u64) -> i64
-    ensures { λ a. ⌜ a ≡ byteAnswer promised (now (row .entry)) bits (now (nodes .entry)) block (lastChild node) ⌝ }
+    ensures { λ a. ⌜ a ≡ byteAnswer promised (now (row .entry)) bits (now (nodes .entry)) block (LastChild node) ⌝ }
 {
-    asking::over_bytes(row, bits, nodes, block, Question::LastChild(node as usize))
+    c_dispatch::over_bytes(
+        row,
+        bits,
+        nodes,
+        block,
+        Request::Call(Question::LastChild(node as usize)),
+    )
 }
 
 // next_sibling(node).
 #[no_mangle]
 pub extern "C" fn bp_next_sibling(row: &[u8], bits: u64, nodes: &[u8], block: u64, node: u64) -> i64
-    ensures { λ a. ⌜ a ≡ byteAnswer promised (now (row .entry)) bits (now (nodes .entry)) block (nextSibling node) ⌝ }
+    ensures { λ a. ⌜ a ≡ byteAnswer promised (now (row .entry)) bits (now (nodes .entry)) block (NextSibling node) ⌝ }
 {
-    asking::over_bytes(
+    c_dispatch::over_bytes(
         row,
         bits,
         nodes,
         block,
-        Question::NextSibling(node as usize),
+        Request::Call(Question::NextSibling(node as usize)),
     )
 }
 
@@ -68,13 +86,13 @@ pub extern "C" fn bp_previous_sibling(
     block: u64,
     node: u64,
 ) -> i64
-    ensures { λ a. ⌜ a ≡ byteAnswer promised (now (row .entry)) bits (now (nodes .entry)) block (previousSibling node) ⌝ }
+    ensures { λ a. ⌜ a ≡ byteAnswer promised (now (row .entry)) bits (now (nodes .entry)) block (PreviousSibling node) ⌝ }
 {
-    asking::over_bytes(
+    c_dispatch::over_bytes(
         row,
         bits,
         nodes,
         block,
-        Question::PreviousSibling(node as usize),
+        Request::Call(Question::PreviousSibling(node as usize)),
     )
 }

@@ -1,9 +1,11 @@
 // The searches over byte slices, for rows of up to 4,096 bits.
 // Each is one question, and promises what the call that answers it promises of the words and numbers that the bytes hold.
 ghost use mathlib.Core.Path.{_≡_};
-ghost use Rattle.demands.specs.Questions.{promised, fwdSearch, bwdSearch, openOf};
-ghost use Rattle.asking.specs.Bytes.{byteAnswer};
-use asking::Question;
+ghost use Rattle.bp_spec.specs.declared.question.Question.the-variants.{FwdSearch, BwdSearch, Open};
+ghost use Rattle.bp_spec.specs.Questions.{promised};
+ghost use Rattle.c_dispatch.specs.Bytes.{byteAnswer};
+use bp_spec::Question;
+use c_dispatch::Request;
 
 // fwd_search(at, r).
 #[no_mangle]
@@ -15,9 +17,15 @@ pub extern "C" fn bp_fwd_search(
     at: u64,
     r: i64,
 ) -> i64
-    ensures { λ a. ⌜ a ≡ byteAnswer promised (now (row .entry)) bits (now (nodes .entry)) block (fwdSearch at r) ⌝ }
+    ensures { λ a. ⌜ a ≡ byteAnswer promised (now (row .entry)) bits (now (nodes .entry)) block (FwdSearch at r) ⌝ }
 {
-    asking::over_bytes(row, bits, nodes, block, Question::FwdSearch(at as usize, r))
+    c_dispatch::over_bytes(
+        row,
+        bits,
+        nodes,
+        block,
+        Request::Call(Question::FwdSearch(at as usize, r)),
+    )
 }
 
 // bwd_search(at, r).
@@ -30,15 +38,27 @@ pub extern "C" fn bp_bwd_search(
     at: u64,
     r: i64,
 ) -> i64
-    ensures { λ a. ⌜ a ≡ byteAnswer promised (now (row .entry)) bits (now (nodes .entry)) block (bwdSearch at r) ⌝ }
+    ensures { λ a. ⌜ a ≡ byteAnswer promised (now (row .entry)) bits (now (nodes .entry)) block (BwdSearch at r) ⌝ }
 {
-    asking::over_bytes(row, bits, nodes, block, Question::BwdSearch(at as usize, r))
+    c_dispatch::over_bytes(
+        row,
+        bits,
+        nodes,
+        block,
+        Request::Call(Question::BwdSearch(at as usize, r)),
+    )
 }
 
 // open(at), for any position.
 #[no_mangle]
 pub extern "C" fn bp_open(row: &[u8], bits: u64, nodes: &[u8], block: u64, at: u64) -> i64
-    ensures { λ a. ⌜ a ≡ byteAnswer promised (now (row .entry)) bits (now (nodes .entry)) block (openOf at) ⌝ }
+    ensures { λ a. ⌜ a ≡ byteAnswer promised (now (row .entry)) bits (now (nodes .entry)) block (Open at) ⌝ }
 {
-    asking::over_bytes(row, bits, nodes, block, Question::Open(at as usize))
+    c_dispatch::over_bytes(
+        row,
+        bits,
+        nodes,
+        block,
+        Request::Call(Question::Open(at as usize)),
+    )
 }

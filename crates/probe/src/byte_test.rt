@@ -1,20 +1,20 @@
 // The tests and the reader of text over byte slices, for rows of up to 4,096 bits.
 // Each test is one question, and promises what the call that answers it promises of the words and numbers that the bytes hold.
 ghost use mathlib.Core.Path.{_≡_};
-ghost use Rattle.tree.specs.OneTree.{oneTreeAnswer};
-ghost use Rattle.mmt.specs.Check.{asBuiltAnswer};
+ghost use Rattle.one_tree.specs.OneTree.{oneTreeAnswer};
+ghost use Rattle.mmt_build.specs.Check.{asBuiltAnswer};
 ghost use Rattle.wire.specs.Answer.{wireOf};
 ghost use Rattle.wire.specs.Limit.{wireBits};
-ghost use Rattle.wire.specs.Lent.{rowWords, nodeNumbers};
-ghost use Rattle.asking.specs.Reader.{readWire, readBytes};
-use asking::Question;
+ghost use Rattle.wire.specs.Decoded.{rowWords, nodeNumbers};
+ghost use Rattle.c_dispatch.specs.Reader.{readWire, readBytes};
+use c_dispatch::Request;
 
 // Whether the row is one tree: 1 or 0.
 #[no_mangle]
 pub extern "C" fn bp_one_tree(row: &[u8], bits: u64) -> i64
     ensures { λ a. ⌜ a ≡ wireOf (oneTreeAnswer (rowWords (now (row .entry))) (wireBits bits)) ⌝ }
 {
-    asking::over_row(row, bits, Question::OneTree)
+    c_dispatch::over_row(row, bits, Request::OneTree)
 }
 
 // Whether the nodes are those that a build writes: 1 or 0.
@@ -22,7 +22,7 @@ pub extern "C" fn bp_one_tree(row: &[u8], bits: u64) -> i64
 pub extern "C" fn bp_as_built(row: &[u8], bits: u64, nodes: &[u8], block: u64) -> i64
     ensures { λ a. ⌜ a ≡ wireOf (asBuiltAnswer (rowWords (now (row .entry))) (wireBits bits) (nodeNumbers (now (nodes .entry))) block) ⌝ }
 {
-    asking::over_bytes(row, bits, nodes, block, Question::AsBuilt)
+    c_dispatch::over_bytes(row, bits, nodes, block, Request::AsBuilt)
 }
 
 // The bits of a text: their count. Fills the words that they need; bytes past those stay, and a refusal leaves all.
@@ -31,5 +31,5 @@ pub extern "C" fn bp_read_text(text: &[u8], row: &mut [u8]) -> i64
     ensures { λ a. ⌜ a ≡ readWire (now (text .entry)) (now (row .entry)) ⌝ }
     ensures { λ a. ⌜ now (row .exit) ≡ readBytes (now (text .entry)) (now (row .entry)) ⌝ }
 {
-    asking::read_text(text, row)
+    c_dispatch::read_text(text, row)
 }

@@ -1,9 +1,9 @@
 // The calls on levels over words and numbers, for rows of any size, without a copy.
 // Each is one call of the crate that answers it, and promises what that promises.
 ghost use mathlib.Core.Path.{_≡_};
-ghost use Rattle.calls.specs.Handles.{nodeAnswer};
-ghost use Rattle.level.specs.Levels.{levelAncestor, levelNext, levelPrev};
-ghost use Rattle.ends.specs.Ends.{levelLeftmost, levelAnswer, rightmostAnswer};
+ghost use Rattle.bp_spec.specs.HandleCalls.{nodeAnswer};
+ghost use Rattle.bp_spec.specs.LevelCalls.{levelAncestor, levelNext, levelPrev};
+ghost use Rattle.bp_spec.specs.LevelEnds.{levelLeftmost, levelAnswer, rightmostAnswer};
 ghost use Rattle.wire.specs.Answer.{wireOf};
 
 // level_ancestor(node, level).

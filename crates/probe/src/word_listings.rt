@@ -5,7 +5,7 @@ ghost use mathlib.Core.Path.{_≡_};
 ghost use mathlib.Core.Bool.{true, false};
 ghost use lib.ListN.{length};
 ghost use Rattle.wire.specs.Answer.{wireOf};
-ghost use Rattle.whole.specs.Whole.{countOf, leftOf};
+ghost use Rattle.list_slice.specs.WholeListing.{countOf, leftOf};
 
 // The children of a node, from the first to the last.
 #[no_mangle]
@@ -20,7 +20,7 @@ pub extern "C" fn bpw_children(
     ensures { λ a. ⌜ a ≡ wireOf (countOf true (now (words .entry)) bits (now (nodes .entry)) block node (length (now (out .entry)))) ⌝ }
     ensures { λ a. ⌜ now (out .exit) ≡ leftOf true (now (words .entry)) bits (now (nodes .entry)) block node (now (out .entry)) ⌝ }
 {
-    lists::to_numbers(words, bits, nodes, block, true, node, out)
+    c_listings::to_numbers(words, bits, nodes, block, true, node, out)
 }
 
 // The children of a node, from the last to the first.
@@ -36,5 +36,5 @@ pub extern "C" fn bpw_rev_children(
     ensures { λ a. ⌜ a ≡ wireOf (countOf false (now (words .entry)) bits (now (nodes .entry)) block node (length (now (out .entry)))) ⌝ }
     ensures { λ a. ⌜ now (out .exit) ≡ leftOf false (now (words .entry)) bits (now (nodes .entry)) block node (now (out .entry)) ⌝ }
 {
-    lists::to_numbers(words, bits, nodes, block, false, node, out)
+    c_listings::to_numbers(words, bits, nodes, block, false, node, out)
 }

@@ -3,10 +3,10 @@
 ghost use mathlib.Core.Path.{_≡_};
 ghost use lib.ListN.{length};
 ghost use Rattle.row.specs.Gates.{rowGate, through};
-ghost use Rattle.handle.specs.Bare.{root, firstChild, isLeaf, handleAnswer};
-ghost use Rattle.calls.specs.Handles.{nodeAnswer};
-ghost use Rattle.family.specs.Family.{parent, ancestorAnswer};
-ghost use Rattle.sibling.specs.Siblings.{lastChild, nextSibling, previousSibling};
+ghost use Rattle.bp_spec.specs.RowCalls.{root, firstChild, isLeaf, handleAnswer};
+ghost use Rattle.bp_spec.specs.HandleCalls.{nodeAnswer};
+ghost use Rattle.bp_spec.specs.AncestorCalls.{parent, ancestorAnswer};
+ghost use Rattle.bp_spec.specs.SiblingCalls.{lastChild, nextSibling, previousSibling};
 ghost use Rattle.wire.specs.Answer.{wireOf};
 
 // root(): 0, nothing on the empty row.

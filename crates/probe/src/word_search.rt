@@ -5,9 +5,9 @@ ghost use lib.IntN.{negsuc};
 ghost use lib.ListN.{length};
 ghost use Rattle.row.specs.Answer as answer;
 ghost use Rattle.row.specs.Gates.{through};
-ghost use Rattle.layout.specs.Layout.{nodesGate};
-ghost use Rattle.mmt.specs.Build.{builtNodes};
-ghost use Rattle.calls.specs.Searches.{fwdAnswer, bwdAnswer, outward};
+ghost use Rattle.mmt_layout.specs.Layout.{nodesGate};
+ghost use Rattle.mmt_build.specs.Build.{builtNodes};
+ghost use Rattle.bp_spec.specs.SearchCalls.{fwdAnswer, bwdAnswer, outward};
 ghost use Rattle.wire.specs.Answer.{wireOf};
 
 // Writes the nodes of the row's bits; numbers past them stay. A refusal leaves all numbers.
@@ -16,7 +16,7 @@ pub extern "C" fn bpw_build(words: &[u64], bits: u64, nodes: &mut [i64], block: 
     ensures { λ a. ⌜ a ≡ wireOf (through (nodesGate (length (now (words .entry))) bits (length (now (nodes .entry))) block) (answer.at 0)) ⌝ }
     ensures { λ a. ⌜ now (nodes .exit) ≡ builtNodes (now (words .entry)) bits (now (nodes .entry)) block ⌝ }
 {
-    wire::built(mmt::build(words, bits as usize, nodes, block as usize))
+    wire::built(mmt_build::build(words, bits as usize, nodes, block as usize))
 }
 
 // fwd_search(at, r).

@@ -5,8 +5,8 @@ ghost use lib.ListN.{length};
 ghost use Rattle.row.specs.Answer.{at};
 ghost use Rattle.row.specs.Gates.{through};
 ghost use Rattle.text.specs.Text.{textGate, textWords};
-ghost use Rattle.tree.specs.OneTree.{oneTreeAnswer};
-ghost use Rattle.mmt.specs.Check.{asBuiltAnswer};
+ghost use Rattle.one_tree.specs.OneTree.{oneTreeAnswer};
+ghost use Rattle.mmt_build.specs.Check.{asBuiltAnswer};
 ghost use Rattle.wire.specs.Answer.{wireOf};
 
 // Whether the row is one tree: 1 or 0.
@@ -14,7 +14,7 @@ ghost use Rattle.wire.specs.Answer.{wireOf};
 pub extern "C" fn bpw_one_tree(words: &[u64], bits: u64) -> i64
     ensures { λ a. ⌜ a ≡ wireOf (oneTreeAnswer (now (words .entry)) bits) ⌝ }
 {
-    wire::told(tree::one_tree(words, bits as usize))
+    wire::told(one_tree::one_tree(words, bits as usize))
 }
 
 // Whether the nodes are those that a build writes: 1 or 0.
@@ -22,7 +22,7 @@ pub extern "C" fn bpw_one_tree(words: &[u64], bits: u64) -> i64
 pub extern "C" fn bpw_as_built(words: &[u64], bits: u64, nodes: &[i64], block: u64) -> i64
     ensures { λ a. ⌜ a ≡ wireOf (asBuiltAnswer (now (words .entry)) bits (now (nodes .entry)) block) ⌝ }
 {
-    wire::told(mmt::as_built(words, bits as usize, nodes, block as usize))
+    wire::told(mmt_build::as_built(words, bits as usize, nodes, block as usize))
 }
 
 // The bits of a text: their count. Fills the words that they need; words past those stay, and a refusal leaves all.

@@ -1,6 +1,6 @@
 -- Laws of tests.
 --   and-left, and-right, and-both: what a test of two things says of each, and what the two make of it
---   is-true: a test that passes is true; same-test: two tests that are true together are one
+--   not-yes: a test that does not pass is false; is-true: a test that passes is true; same-test: two tests that are true together are one
 -- Assumes nothing.
 use mathlib.Core.Path.{_≡_, refl, sym}
 use mathlib.Core.Bool.{Bool, true, false, _&&_, and-eq-true-iff}
@@ -15,6 +15,10 @@ module _ (a b : Bool) where
 
   pub and-both : a ≡ true → b ≡ true → (a && b) ≡ true
   and-both p q = and-eq-true-iff a b .1 (p, q)
+
+pub not-yes : (b : Bool) → (b ≡ true → ⊥) → b ≡ false
+not-yes true f = absurd (f refl)
+not-yes false f = refl
 
 pub is-true : (a : Bool) → T a → a ≡ true
 is-true true h = refl

@@ -36,12 +36,12 @@ sign-size zero = refl
 sign-size (suc b) = refl
 
 -- two neighbours
-pub record Near (e : ℕ → ℤ) (k : ℕ) : Type 0 where
+pub record StepsByOne (e : ℕ → ℤ) (k : ℕ) : Type 0 where
   pub rises : e (suc k) ≤ℤ (e k +ℤ pos 1)
   pub falls : e k ≤ℤ (e (suc k) +ℤ pos 1)
 
 module _ (f : ℕ → ℕ) where
-  pub steps : (k : ℕ) → Near (excess f) k
+  pub steps : (k : ℕ) → StepsByOne (excess f) k
   unfolding excess
   steps k = record {
     rises = omega (zsum, sign-size (f k), plus (excess f k) (sign (f k)));

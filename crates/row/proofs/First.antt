@@ -9,22 +9,22 @@ use native.Mathlib.Omega.{arith}
 use lib.IntN.{ℤ}
 use Rattle.ints.proofs.Order.{eqZ-true, eqZ-yes}
 use Rattle.row.specs.Answer.{Answer, at, nothing, refused}
-use Rattle.row.specs.Search.{least, after}
-use Rattle.row.proofs.Nearest.{Least, Within, orElse, one-least, some-at, join-least, least-is}
+use Rattle.row.specs.Search.{least, excessAfter}
+use Rattle.row.proofs.Nearest.{Least, InStretch, orElse, one-least, some-at, join-least, least-is}
 
 unfoldable pub first : (ℕ → ℤ) → ℤ → ℕ → ℕ → Answer
-first e v a t = least (after e v) (t - a) a
+first e v a t = least (excessAfter e v) (t - a) a
 
 module _ (e : ℕ → ℤ) (v : ℤ) where
   abbrev Has : ℕ → Type 0
   Has k = e (suc k) ≡ v
 
-  pub first-is : (a t : ℕ) → Least (Within Has a t) (first e v a t)
+  pub first-is : (a t : ℕ) → Least (InStretch Has a t) (first e v a t)
   unfolding first
-  first-is a t = least-is (after e v) Has (λ k. eqZ-true (e (suc k)) v) (λ k. eqZ-yes (e (suc k)) v) (t - a) a t refl
+  first-is a t = least-is (excessAfter e v) Has (λ k. eqZ-true (e (suc k)) v) (λ k. eqZ-yes (e (suc k)) v) (t - a) a t refl
 
   pub first-split : (a m t : ℕ) → a ≤ m → m ≤ t → first e v a t ≡ orElse (first e v a m) (first e v m t)
-  first-split a m t h l = one-least (Within Has a t) (first e v a t) (orElse (first e v a m) (first e v m t)) (first-is a t) (join-least Has a m t h l (first e v a m) (first e v m t) (first-is a m) (first-is m t))
+  first-split a m t h l = one-least (InStretch Has a t) (first e v a t) (orElse (first e v a m) (first e v m t)) (first-is a t) (join-least Has a m t h l (first e v a m) (first e v m t) (first-is a m) (first-is m t))
 
   pub first-left : (a m t j : ℕ) → a ≤ m → m ≤ t → first e v a m ≡ at j → first e v a t ≡ at j
   first-left a m t j h l q = rw q at (first-split a m t h l)
@@ -45,10 +45,10 @@ module _ (e : ℕ → ℤ) (v : ℤ) where
   first-answers a t m q = rw q at (first-is a t)
 
   pub first-none : (a t : ℕ) → ((k : ℕ) → a ≤ k → k < t → e (suc k) ≡ v → ⊥) → first e v a t ≡ nothing
-  first-none a t f = one-least (Within Has a t) (first e v a t) nothing (first-is a t) (λ k h. f k (h .0) (h .1) (h .2))
+  first-none a t f = one-least (InStretch Has a t) (first e v a t) nothing (first-is a t) (λ k h. f k (h .0) (h .1) (h .2))
 
   pub first-empty : (a t : ℕ) → t ≤ a → first e v a t ≡ nothing
   first-empty a t h = first-none a t (λ k p q r. omega arith)
 
   pub first-there : (a t k : ℕ) → a ≤ k → k < t → e (suc k) ≡ v → (j : ℕ) × (first e v a t ≡ at j)
-  first-there a t k h l r = some-at (λ k j. k < j) (Within Has a t) (first e v a t) (first-is a t) k (h, l, r)
+  first-there a t k h l r = some-at (λ k j. k < j) (InStretch Has a t) (first e v a t) (first-is a t) k (h, l, r)

@@ -1,6 +1,6 @@
 -- The tests before an answer: what they say in each case, and what an open gate tells.
---   row-many, row-few, row-open: refusals 2 and 3, and none; row-fits: what an open gate tells of the row
---   handle-past, handle-shut, handle-open: refusal 5, and none
+--   row-many, row-few, row-passed: refusals 2 and 3, and none; row-fits: what an open gate tells of the row
+--   handle-past, handle-refused, handle-passed: refusal 5, and none
 -- Assumes nothing.
 use mathlib.Core.Path.{_≡_, refl}
 use mathlib.Core.Bool.{Bool, true, false}
@@ -10,25 +10,25 @@ use native.Mathlib.Omega.{arith}
 use borrow.Author.Tests.{le-leb, lt-leb, lt-ltb, le-ltb, leb-true, leb-false}
 use lib.Dec.{leb, eqb}
 use Rattle.row.specs.declared.refusal.Refusal.the-variants.{TooManyBits, TooFewWords, NotAHandle}
-use Rattle.row.specs.declared.gate.Gate.the-variants.{Open, Shut}
+use Rattle.row.specs.declared.gate.Gate.the-variants.{Pass, Refuse}
 use Rattle.row.specs.Bits.{bitAt}
 use Rattle.row.specs.Tree.{opens}
 use Rattle.row.specs.Gates.{wordsFor, rowGate, handleGate}
 
 module _ (w n : ℕ) where
-  pub row-many : 4294967296 < n → Shut TooManyBits ≡ rowGate w n
+  pub row-many : 4294967296 < n → Refuse TooManyBits ≡ rowGate w n
   unfolding rowGate
   row-many h = simp (lt-leb n 4294967296 h)
 
-  pub row-few : n ≤ 4294967296 → w < wordsFor n → Shut TooFewWords ≡ rowGate w n
+  pub row-few : n ≤ 4294967296 → w < wordsFor n → Refuse TooFewWords ≡ rowGate w n
   unfolding rowGate
   row-few h k = simp (le-leb n 4294967296 h, lt-leb (wordsFor n) w k)
 
-  pub row-open : n ≤ 4294967296 → wordsFor n ≤ w → Open ≡ rowGate w n
+  pub row-passed : n ≤ 4294967296 → wordsFor n ≤ w → Pass ≡ rowGate w n
   unfolding rowGate
-  row-open h k = simp (le-leb n 4294967296 h, le-leb (wordsFor n) w k)
+  row-passed h k = simp (le-leb n 4294967296 h, le-leb (wordsFor n) w k)
 
-  pub row-fits : rowGate w n ≡ Open → (n ≤ 4294967296) × (n ≤ 64 * w)
+  pub row-fits : rowGate w n ≡ Pass → (n ≤ 4294967296) × (n ≤ 64 * w)
   unfolding rowGate
   row-fits g = by (leb n 4294967296) refl (leb (wordsFor n) w) refl
     where
@@ -38,14 +38,14 @@ module _ (w n : ℕ) where
       by false p b q = let z : _≡_ {A = ℕ} 0 1 = cc (row-many (leb-false n 4294967296 p)) in absurd (omega arith)
 
 module _ (ws : List ℕ) (n v : ℕ) where
-  pub handle-past : n ≤ v → Shut NotAHandle ≡ handleGate ws n v
+  pub handle-past : n ≤ v → Refuse NotAHandle ≡ handleGate ws n v
   unfolding handleGate opens
   handle-past h = simp (le-ltb v n h)
 
-  pub handle-shut : v < n → eqb (bitAt ws v) 1 ≡ false → Shut NotAHandle ≡ handleGate ws n v
+  pub handle-refused : v < n → eqb (bitAt ws v) 1 ≡ false → Refuse NotAHandle ≡ handleGate ws n v
   unfolding handleGate opens
-  handle-shut h b = simp (lt-ltb v n h, b)
+  handle-refused h b = simp (lt-ltb v n h, b)
 
-  pub handle-open : v < n → eqb (bitAt ws v) 1 ≡ true → Open ≡ handleGate ws n v
+  pub handle-passed : v < n → eqb (bitAt ws v) 1 ≡ true → Pass ≡ handleGate ws n v
   unfolding handleGate opens
-  handle-open h b = simp (lt-ltb v n h, b)
+  handle-passed h b = simp (lt-ltb v n h, b)

@@ -9,22 +9,22 @@ use native.Mathlib.Omega.{arith}
 use lib.IntN.{ℤ}
 use Rattle.ints.proofs.Order.{eqZ-true, eqZ-yes}
 use Rattle.row.specs.Answer.{Answer, at, nothing, refused}
-use Rattle.row.specs.Search.{greatest, before}
-use Rattle.row.proofs.Nearest.{Greatest, Within, orElse, one-greatest, some-at, join-greatest, greatest-is}
+use Rattle.row.specs.Search.{greatest, excessBefore}
+use Rattle.row.proofs.Nearest.{Greatest, InStretch, orElse, one-greatest, some-at, join-greatest, greatest-is}
 
 unfoldable pub last : (ℕ → ℤ) → ℤ → ℕ → ℕ → Answer
-last e v a t = greatest (before e v) (t - a) a
+last e v a t = greatest (excessBefore e v) (t - a) a
 
 module _ (e : ℕ → ℤ) (v : ℤ) where
   abbrev Has : ℕ → Type 0
   Has k = e k ≡ v
 
-  pub last-is : (a t : ℕ) → Greatest (Within Has a t) (last e v a t)
+  pub last-is : (a t : ℕ) → Greatest (InStretch Has a t) (last e v a t)
   unfolding last
-  last-is a t = greatest-is (before e v) Has (λ k. eqZ-true (e k) v) (λ k. eqZ-yes (e k) v) (t - a) a t refl
+  last-is a t = greatest-is (excessBefore e v) Has (λ k. eqZ-true (e k) v) (λ k. eqZ-yes (e k) v) (t - a) a t refl
 
   pub last-split : (a m t : ℕ) → a ≤ m → m ≤ t → last e v a t ≡ orElse (last e v m t) (last e v a m)
-  last-split a m t h l = one-greatest (Within Has a t) (last e v a t) (orElse (last e v m t) (last e v a m)) (last-is a t) (join-greatest Has a m t h l (last e v m t) (last e v a m) (last-is m t) (last-is a m))
+  last-split a m t h l = one-greatest (InStretch Has a t) (last e v a t) (orElse (last e v m t) (last e v a m)) (last-is a t) (join-greatest Has a m t h l (last e v m t) (last e v a m) (last-is m t) (last-is a m))
 
   pub last-right : (a m t j : ℕ) → a ≤ m → m ≤ t → last e v m t ≡ at j → last e v a t ≡ at j
   last-right a m t j h l q = rw q at (last-split a m t h l)
@@ -45,10 +45,10 @@ module _ (e : ℕ → ℤ) (v : ℤ) where
   last-answers a t m q = rw q at (last-is a t)
 
   pub last-none : (a t : ℕ) → ((k : ℕ) → a ≤ k → k < t → e k ≡ v → ⊥) → last e v a t ≡ nothing
-  last-none a t f = one-greatest (Within Has a t) (last e v a t) nothing (last-is a t) (λ k h. f k (h .0) (h .1) (h .2))
+  last-none a t f = one-greatest (InStretch Has a t) (last e v a t) nothing (last-is a t) (λ k h. f k (h .0) (h .1) (h .2))
 
   pub last-empty : (a t : ℕ) → t ≤ a → last e v a t ≡ nothing
   last-empty a t h = last-none a t (λ k p q r. omega arith)
 
   pub last-there : (a t k : ℕ) → a ≤ k → k < t → e k ≡ v → (j : ℕ) × (last e v a t ≡ at j)
-  last-there a t k h l r = some-at (λ k j. j < k) (Within Has a t) (last e v a t) (last-is a t) k (h, l, r)
+  last-there a t k h l r = some-at (λ k j. j < k) (InStretch Has a t) (last e v a t) (last-is a t) k (h, l, r)

@@ -14,7 +14,7 @@ use lib.IntN.{ℤ, _+ℤ_}
 use Rattle.row.specs.Answer.{Answer, at, nothing, refused}
 use Rattle.row.specs.Excess.{E}
 use Rattle.row.specs.Search.{fwd, bwd}
-use Rattle.row.proofs.Nearest.{Nearest, Least, Greatest, one-least, one-greatest}
+use Rattle.row.proofs.Nearest.{NearestBy, Least, Greatest, one-least, one-greatest}
 use Rattle.row.proofs.First.{first, first-is}
 use Rattle.row.proofs.Last.{last, last-is}
 
@@ -32,7 +32,7 @@ Behind ws n i r j = (i < n) × (j < i) × (E ws j ≡ E ws i +ℤ r)
 abbrev pub IsBwd : List ℕ → ℕ → ℕ → ℤ → Answer → Type 0
 IsBwd ws n i r = Greatest (Behind ws n i r)
 
-pub nearest-ext : (R : ℕ → ℕ → Type 0) (P Q : ℕ → Type 0) → ((k : ℕ) → P k → Q k) → ((k : ℕ) → Q k → P k) → (x : Answer) → Nearest R P x → Nearest R Q x
+pub nearest-ext : (R : ℕ → ℕ → Type 0) (P Q : ℕ → Type 0) → ((k : ℕ) → P k → Q k) → ((k : ℕ) → Q k → P k) → (x : Answer) → NearestBy R P x → NearestBy R Q x
 nearest-ext R P Q p q (at j) h = (p j (h .0), λ k u. h .1 k (q k u))
 nearest-ext R P Q p q nothing h = λ k u. h k (q k u)
 nearest-ext R P Q p q (refused m) h = h

@@ -12,20 +12,20 @@ use Rattle.row.specs.Answer.{Answer, at, nothing, refused}
 use Rattle.row.specs.Search.{least, greatest}
 
 -- the position with P before which R puts no other; nothing where there is none
-abbrev pub Nearest : (ℕ → ℕ → Type 0) → (ℕ → Type 0) → Answer → Type 0
-Nearest R P (at j) = P j × ((k : ℕ) → P k → R k j → ⊥)
-Nearest R P nothing = (k : ℕ) → P k → ⊥
-Nearest R P (refused m) = ⊥
+abbrev pub NearestBy : (ℕ → ℕ → Type 0) → (ℕ → Type 0) → Answer → Type 0
+NearestBy R P (at j) = P j × ((k : ℕ) → P k → R k j → ⊥)
+NearestBy R P nothing = (k : ℕ) → P k → ⊥
+NearestBy R P (refused m) = ⊥
 
 abbrev pub Least : (ℕ → Type 0) → Answer → Type 0
-Least = Nearest (λ k j. k < j)
+Least = NearestBy (λ k j. k < j)
 
 abbrev pub Greatest : (ℕ → Type 0) → Answer → Type 0
-Greatest = Nearest (λ k j. j < k)
+Greatest = NearestBy (λ k j. j < k)
 
 -- k is in the stretch a..t and has Q
-abbrev pub Within : (ℕ → Type 0) → ℕ → ℕ → ℕ → Type 0
-Within Q a t k = (a ≤ k) × (k < t) × Q k
+abbrev pub InStretch : (ℕ → Type 0) → ℕ → ℕ → ℕ → Type 0
+InStretch Q a t k = (a ≤ k) × (k < t) × Q k
 
 -- the first answer, or the second where that is nothing
 abbrev pub orElse : Answer → Answer → Answer
@@ -34,7 +34,7 @@ orElse nothing y = y
 orElse (refused m) y = refused m
 
 module _ (R : ℕ → ℕ → Type 0) (P : ℕ → Type 0) where
-  one-answer : ((j k : ℕ) → (R j k → ⊥) → (R k j → ⊥) → j ≡ k) → (x y : Answer) → Nearest R P x → Nearest R P y → x ≡ y
+  one-answer : ((j k : ℕ) → (R j k → ⊥) → (R k j → ⊥) → j ≡ k) → (x y : Answer) → NearestBy R P x → NearestBy R P y → x ≡ y
   one-answer c (at j) (at k) h g = ap at (c j k (g .1 j (h .0)) (h .1 k (g .0)))
   one-answer c (at j) nothing h g = absurd (g j (h .0))
   one-answer c (at j) (refused m) h g = absurd g
@@ -43,13 +43,13 @@ module _ (R : ℕ → ℕ → Type 0) (P : ℕ → Type 0) where
   one-answer c nothing (refused m) h g = absurd g
   one-answer c (refused m) y h g = absurd h
 
-  pub some-at : (x : Answer) → Nearest R P x → (k : ℕ) → P k → (j : ℕ) × (x ≡ at j)
+  pub some-at : (x : Answer) → NearestBy R P x → (k : ℕ) → P k → (j : ℕ) × (x ≡ at j)
   some-at (at j) h k p = (j, refl)
   some-at nothing h k p = absurd (h k p)
   some-at (refused m) h k p = absurd h
 
   -- S is P or Q, and each with P is before each with Q
-  join : (Q S : ℕ → Type 0) → ((k : ℕ) → P k → S k) → ((k : ℕ) → Q k → S k) → ((k : ℕ) → S k → (P k → ⊥) → (Q k → ⊥) → ⊥) → ((j k : ℕ) → P j → Q k → R k j → ⊥) → (x y : Answer) → Nearest R P x → Nearest R Q y → Nearest R S (orElse x y)
+  join : (Q S : ℕ → Type 0) → ((k : ℕ) → P k → S k) → ((k : ℕ) → Q k → S k) → ((k : ℕ) → S k → (P k → ⊥) → (Q k → ⊥) → ⊥) → ((j k : ℕ) → P j → Q k → R k j → ⊥) → (x y : Answer) → NearestBy R P x → NearestBy R Q y → NearestBy R S (orElse x y)
   join Q S p q s c (at j) y h g = (p j (h .0), λ k u b. s k u (λ v. h .1 k v b) (λ v. c j k (h .0) v b))
   join Q S p q s c nothing (at j) h g = (q j (g .0), λ k u b. s k u (h k) (λ v. g .1 k v b))
   join Q S p q s c nothing nothing h g = λ k u. s k u (h k) (g k)
@@ -64,39 +64,39 @@ module _ (P : ℕ → Type 0) where
   one-greatest = one-answer (λ k j. j < k) P (λ j k p q. omega arith)
 
 module _ (Q : ℕ → Type 0) (a m t : ℕ) (am : a ≤ m) (mt : m ≤ t) where
-  left : (k : ℕ) → Within Q a m k → Within Q a t k
+  left : (k : ℕ) → InStretch Q a m k → InStretch Q a t k
   left k h = (h .0, omega arith, h .2)
 
-  right : (k : ℕ) → Within Q m t k → Within Q a t k
+  right : (k : ℕ) → InStretch Q m t k → InStretch Q a t k
   right k h = (omega arith, h .1, h .2)
 
-  halves : (k : ℕ) → Within Q a t k → (Within Q a m k → ⊥) → (Within Q m t k → ⊥) → ⊥
+  halves : (k : ℕ) → InStretch Q a t k → (InStretch Q a m k → ⊥) → (InStretch Q m t k → ⊥) → ⊥
   halves k h f g = elim (decLt k m) [ yes l ↦ f (h .0, l, h .2) | no l ↦ g (omega arith, h .1, h .2) ]
 
-  pub join-least : (x y : Answer) → Least (Within Q a m) x → Least (Within Q m t) y → Least (Within Q a t) (orElse x y)
-  join-least = join (λ k j. k < j) (Within Q a m) (Within Q m t) (Within Q a t) left right halves (λ j k h g b. omega arith)
+  pub join-least : (x y : Answer) → Least (InStretch Q a m) x → Least (InStretch Q m t) y → Least (InStretch Q a t) (orElse x y)
+  join-least = join (λ k j. k < j) (InStretch Q a m) (InStretch Q m t) (InStretch Q a t) left right halves (λ j k h g b. omega arith)
 
-  pub join-greatest : (x y : Answer) → Greatest (Within Q m t) x → Greatest (Within Q a m) y → Greatest (Within Q a t) (orElse x y)
-  join-greatest = join (λ k j. j < k) (Within Q m t) (Within Q a m) (Within Q a t) right left (λ k h f g. halves k h g f) (λ j k h g b. omega arith)
+  pub join-greatest : (x y : Answer) → Greatest (InStretch Q m t) x → Greatest (InStretch Q a m) y → Greatest (InStretch Q a t) (orElse x y)
+  join-greatest = join (λ k j. j < k) (InStretch Q m t) (InStretch Q a m) (InStretch Q a t) right left (λ k h f g. halves k h g f) (λ j k h g b. omega arith)
 
 module _ (p : ℕ → Bool) (Q : ℕ → Type 0) (sound : (k : ℕ) → p k ≡ true → Q k) (full : (k : ℕ) → Q k → p k ≡ true) where
-  missed : (j t : ℕ) → t ≡ suc j → p j ≡ false → (k : ℕ) → Within Q j t k → ⊥
+  missed : (j t : ℕ) → t ≡ suc j → p j ≡ false → (k : ℕ) → InStretch Q j t k → ⊥
   missed j t e f k h = let q : k ≡ j = omega arith in true≢false (sym (full k (h .2)) ∙ ap p q ∙ f)
 
-  pub least-is : (c a t : ℕ) → c ≡ t - a → Least (Within Q a t) (least p c a)
+  pub least-is : (c a t : ℕ) → c ≡ t - a → Least (InStretch Q a t) (least p c a)
   unfolding least
   least-is zero a t e = λ k h. omega arith
   least-is (suc c) a t e = go (p a) refl (least-is c (suc a) t (omega arith))
     where
-      go : (b : Bool) → p a ≡ b → Least (Within Q (suc a) t) (least p c (suc a)) → Least (Within Q a t) (cond b (at a) (least p c (suc a)))
+      go : (b : Bool) → p a ≡ b → Least (InStretch Q (suc a) t) (least p c (suc a)) → Least (InStretch Q a t) (cond b (at a) (least p c (suc a)))
       go true f h = ((omega arith, omega arith, sound a f), λ k g b. omega arith)
       go false f h = join-least Q a (suc a) t (omega arith) (omega arith) nothing (least p c (suc a)) (missed a (suc a) refl f) h
 
-  pub greatest-is : (c a t : ℕ) → c ≡ t - a → Greatest (Within Q a t) (greatest p c a)
+  pub greatest-is : (c a t : ℕ) → c ≡ t - a → Greatest (InStretch Q a t) (greatest p c a)
   unfolding greatest
   greatest-is zero a t e = λ k h. omega arith
   greatest-is (suc c) a t e = go (p (a + c)) refl (greatest-is c a (a + c) (omega arith))
     where
-      go : (b : Bool) → p (a + c) ≡ b → Greatest (Within Q a (a + c)) (greatest p c a) → Greatest (Within Q a t) (cond b (at (a + c)) (greatest p c a))
+      go : (b : Bool) → p (a + c) ≡ b → Greatest (InStretch Q a (a + c)) (greatest p c a) → Greatest (InStretch Q a t) (cond b (at (a + c)) (greatest p c a))
       go true f h = ((omega arith, omega arith, sound (a + c) f), λ k g b. omega arith)
       go false f h = join-greatest Q a (a + c) t (omega arith) (omega arith) nothing (greatest p c a) (missed (a + c) t (omega arith) f) h

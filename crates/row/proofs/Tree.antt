@@ -1,5 +1,6 @@
 -- One tree, as a test and as a claim.
 --   all-each, each-all: a test of all numbers below a bound
+--   opens-low: a handle lies in the row
 --   oneTree-true, oneTree-yes: what the test of a tree found, and what it finds
 -- Assumes nothing.
 use mathlib.Core.Path.{_≡_, refl}
@@ -8,15 +9,16 @@ use mathlib.Core.List.{List}
 use Prim.Native.Nat.{ℕ, zero, suc, _-_, _<_}
 use native.Mathlib.Decide.{decLt}
 use native.Mathlib.Omega.{arith}
-use borrow.Author.Tests.{leb-true, le-leb}
-use lib.Dec.{leb}
+use borrow.Author.Tests.{ltb-true, leb-true, le-leb}
+use lib.Dec.{ltb, leb, eqb}
 use lib.IntN.{pos}
 use lib.Signed.{ltZ, _<ℤ_}
 use Rattle.ints.specs.Order.{eqZ}
 use Rattle.ints.proofs.Order.{eqZ-true, eqZ-yes}
 use Rattle.ints.proofs.Shapes.{zsum}
 use Rattle.row.specs.Excess.{E}
-use Rattle.row.specs.Tree.{OneTree, allBelow, oneTree}
+use Rattle.row.specs.Bits.{bitAt}
+use Rattle.row.specs.Tree.{opens, OneTree, allBelow, oneTree}
 use Rattle.row.proofs.Bools.{and-left, and-right, and-both, is-true}
 
 module _ (p : ℕ → Bool) where
@@ -62,3 +64,7 @@ module _ (ws : List ℕ) (n : ℕ) where
       and-both ends (allBelow over (n - 1))
       (and-both (leb 2 n) (eqZ (E ws n) (pos 0)) (le-leb 2 n (t .two)) (eqZ-yes (E ws n) (pos 0) (t .closed)))
       (each-all over (n - 1) (λ k l. is-true (over k) (t .above (suc k) (omega arith) (omega arith) .lt)))
+
+pub opens-low : (ws : List ℕ) (n i : ℕ) → opens ws n i ≡ true → i < n
+unfolding opens
+opens-low ws n i h = ltb-true i n (and-left (ltb i n) (eqb (bitAt ws i) 1) h)

@@ -20,17 +20,17 @@ greatest p zero a = nothing
 greatest p (suc c) a = cond (p (a + c)) (at (a + c)) (greatest p c a)
 
 -- the excess after position j is v
-abbrev pub after : (ℕ → ℤ) → ℤ → ℕ → Bool
-after e v j = eqZ (e (suc j)) v
+abbrev pub excessAfter : (ℕ → ℤ) → ℤ → ℕ → Bool
+excessAfter e v j = eqZ (e (suc j)) v
 
 -- the excess before position j is v
-abbrev pub before : (ℕ → ℤ) → ℤ → ℕ → Bool
-before e v j = eqZ (e j) v
+abbrev pub excessBefore : (ℕ → ℤ) → ℤ → ℕ → Bool
+excessBefore e v j = eqZ (e j) v
 
 -- fwd_search(i, r): least j with i < j < n and E(j+1) = E(i+1) + r
 unfoldable pub fwd : List ℕ → ℕ → ℕ → ℤ → Answer
-fwd ws n i r = least (after (E ws) (E ws (suc i) +ℤ r)) (n - suc i) (suc i)
+fwd ws n i r = least (excessAfter (E ws) (E ws (suc i) +ℤ r)) (n - suc i) (suc i)
 
 -- bwd_search(i, r): greatest j < i with E(j) = E(i) + r; nothing when i >= n
 unfoldable pub bwd : List ℕ → ℕ → ℕ → ℤ → Answer
-bwd ws n i r = cond (ltb i n) (greatest (before (E ws) (E ws i +ℤ r)) i 0) nothing
+bwd ws n i r = cond (ltb i n) (greatest (excessBefore (E ws) (E ws i +ℤ r)) i 0) nothing

@@ -15,6 +15,10 @@ use Rattle.row.specs.Excess.{E}
 unfoldable pub opens : List ℕ → ℕ → ℕ → Bool
 opens ws n i = ltb i n && eqb (bitAt ws i) 1
 
+-- a handle is an open position below n
+abbrev pub Handle : List ℕ → ℕ → ℕ → Type 0
+Handle ws n v = opens ws n v ≡ true
+
 -- position i is in the row and closes
 unfoldable pub closes : List ℕ → ℕ → ℕ → Bool
 closes ws n i = ltb i n && eqb (bitAt ws i) 0

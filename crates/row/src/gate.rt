@@ -8,8 +8,8 @@ use crate::refusal::Refusal;
 
 // What the tests before a call say.
 pub enum Gate {
-    Open,
-    Shut(Refusal),
+    Pass,
+    Refuse(Refusal),
 }
 
 // The words that n bits need.
@@ -25,12 +25,12 @@ pub fn admit_row(words: usize, n: usize) -> Gate
     ensures { λ g. ⌜ g ≡ rowGate words n ⌝ }
 {
     if 4294967296 < n {
-        return Gate::Shut(Refusal::TooManyBits);
+        return Gate::Refuse(Refusal::TooManyBits);
     }
     if words < words_for(n) {
-        return Gate::Shut(Refusal::TooFewWords);
+        return Gate::Refuse(Refusal::TooFewWords);
     }
-    Gate::Open
+    Gate::Pass
 }
 
 // Refusal 5, after 2 and 3.
@@ -39,10 +39,10 @@ pub fn admit_handle(words: &[u64], n: usize, v: usize) -> Gate
     ensures { λ g. ⌜ g ≡ handleGate (now (words .entry)) n v ⌝ }
 {
     if n <= v {
-        return Gate::Shut(Refusal::NotAHandle);
+        return Gate::Refuse(Refusal::NotAHandle);
     }
     if opens_at(words, v) {
-        return Gate::Open;
+        return Gate::Pass;
     }
-    Gate::Shut(Refusal::NotAHandle)
+    Gate::Refuse(Refusal::NotAHandle)
 }

@@ -9,12 +9,12 @@ use lib.ListN.{length, getD, drop, length-append, length-drop, List·getD-append
 use lib.Seq.{getD-append-add, getD-drop}
 use Rattle.row.specs.declared.refusal.Refusal.{Refusal}
 use Rattle.row.specs.declared.gate.Gate.{Gate}
-use Rattle.row.specs.declared.gate.Gate.the-variants.{Open, Shut}
+use Rattle.row.specs.declared.gate.Gate.the-variants.{Pass, Refuse}
 use Rattle.row.specs.Bits.{digit, bitAt}
 use Rattle.row.specs.Gates.{wordsFor}
 use Rattle.text.specs.Text.{textBit, wordOf, wordsOf, textGate, textWords}
 use Rattle.text.proofs.Packed.{packed-digit}
-use Rattle.text.proofs.Text.{bit-lt, bit-past, words-length, words-at, text-fits, words-open, words-shut}
+use Rattle.text.proofs.Text.{bit-lt, bit-past, words-length, words-at, text-fits, words-passed, words-refused}
 
 -- digit j of word k is bit 64 k + j
 word-digit : (s : List ℕ) (k j : ℕ) → j < 64 → digit (wordOf s k) j ≡ textBit s (64 * k + j)
@@ -30,35 +30,35 @@ word-past s ws m k h =
 
 module _ (s ws : List ℕ) where
   -- a refusal leaves every word
-  pub refusal-keeps : (k : Refusal) → textGate s (length ws) ≡ Shut k → textWords s ws ≡ ws
-  refusal-keeps k g = sym (words-shut s ws k g)
+  pub refusal-keeps : (k : Refusal) → textGate s (length ws) ≡ Refuse k → textWords s ws ≡ ws
+  refusal-keeps k g = sym (words-refused s ws k g)
 
   -- there are as many words as before
   pub length-stays : length (textWords s ws) ≡ length ws
   length-stays = by (textGate s (length ws)) refl
     where
       by : (g : Gate) → textGate s (length ws) ≡ g → length (textWords s ws) ≡ length ws
-      by Open g =
+      by Pass g =
           let f = text-fits s (length ws) g in
-          rw (← words-open s ws g, length-append, words-length, length-drop) (omega arith)
-      by (Shut k) g = ap length (refusal-keeps k g)
+          rw (← words-passed s ws g, length-append, words-length, length-drop) (omega arith)
+      by (Refuse k) g = ap length (refusal-keeps k g)
 
   -- words past those that the text's bits need stay
   pub past-stays : (k : ℕ) → wordsFor (length s) ≤ k → getD (textWords s ws) k 0 ≡ getD ws k 0
   past-stays k h = by (textGate s (length ws)) refl
     where
       by : (g : Gate) → textGate s (length ws) ≡ g → getD (textWords s ws) k 0 ≡ getD ws k 0
-      by Open g = rw (← words-open s ws g) (word-past s ws (wordsFor (length s)) k h)
-      by (Shut r) g = ap (λ l. getD l k 0) (refusal-keeps r g)
+      by Pass g = rw (← words-passed s ws g) (word-past s ws (wordsFor (length s)) k h)
+      by (Refuse r) g = ap (λ l. getD l k 0) (refusal-keeps r g)
 
-  module _ (g : textGate s (length ws) ≡ Open) where
+  module _ (g : textGate s (length ws) ≡ Pass) where
     -- every bit of the written words is the text's
     written : (i : ℕ) → i < 64 * wordsFor (length s) → bitAt (textWords s ws) i ≡ textBit s i
     written i h =
         let e : 64 * (i / 64) + i % 64 ≡ i = omega arith in
         let l : i / 64 < wordsFor (length s) = omega arith in
         let m : i / 64 < length (wordsOf s (wordsFor (length s))) = rw words-length l in
-        rw (← words-open s ws g, List·getD-append, words-at) (word-digit s (i / 64) (i % 64) (omega arith) ∙ ap (textBit s) e)
+        rw (← words-passed s ws g, List·getD-append, words-at) (word-digit s (i / 64) (i % 64) (omega arith) ∙ ap (textBit s) e)
 
     -- the bits are the parentheses
     pub bits-are : (i : ℕ) → i < length s → bitAt (textWords s ws) i ≡ textBit s i

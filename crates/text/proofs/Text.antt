@@ -1,9 +1,9 @@
 -- The reader's tests, bits and words: what each is in each case, one step, and what an open gate tells.
 --   all-stop, all-step, all-done: the test of every byte, from byte i on
---   bit-open, bit-shut, bit-past: a bit by its byte; bit-lt: a bit is below 2
+--   bit-open, bit-close, bit-past: a bit by its byte; bit-lt: a bit is below 2
 --   words-length, words-at, words-step: the words written so far, and one more
 --   text-many, text-other, text-row: refusals 2 and 6, and neither; text-fits: what an open gate tells of the text
---   words-open, words-shut: the words after the call
+--   words-passed, words-refused: the words after the call
 -- Assumes nothing.
 use mathlib.Core.Path.{_≡_, refl, _∙_}
 use mathlib.Core.Bool.{Bool, true, false, cond}
@@ -19,7 +19,7 @@ use lib.ListN.{length, getD, drop, set, length-append, drop-of-length-le, List·
 use lib.Seq.{drop-cons, set-at, getD-at}
 use Rattle.row.specs.declared.refusal.Refusal.{Refusal}
 use Rattle.row.specs.declared.refusal.Refusal.the-variants.{TooManyBits, NotAParenthesis}
-use Rattle.row.specs.declared.gate.Gate.the-variants.{Open, Shut}
+use Rattle.row.specs.declared.gate.Gate.the-variants.{Pass, Refuse}
 use Rattle.row.specs.Gates.{wordsFor, rowGate}
 use Rattle.row.proofs.Gates.{row-fits}
 use Rattle.text.specs.Text.{isParenthesis, allParentheses, textBit, wordOf, wordsOf, textGate, textWords}
@@ -40,8 +40,8 @@ module _ (s : List ℕ) (i : ℕ) where
   pub bit-open : getD s i 0 ≡ 40 → 1 ≡ textBit s i
   bit-open e = simp (eq-eqb (getD s i 0) 40 e)
 
-  pub bit-shut : (getD s i 0 ≡ 40 → ⊥) → 0 ≡ textBit s i
-  bit-shut e = simp (ne-eqb (getD s i 0) 40 e)
+  pub bit-close : (getD s i 0 ≡ 40 → ⊥) → 0 ≡ textBit s i
+  bit-close e = simp (ne-eqb (getD s i 0) 40 e)
 
   pub bit-past : length s ≤ i → 0 ≡ textBit s i
   bit-past h = rw (List·getD-eq-default s 0)
@@ -72,11 +72,11 @@ module _ (s : List ℕ) where
   words-step ws k h = let l = words-length k in rw (add-one, drop-cons ws k 0, append-assoc, set-at)
 
 module _ (s : List ℕ) (w : ℕ) where
-  pub text-many : 4294967296 < length s → Shut TooManyBits ≡ textGate s w
+  pub text-many : 4294967296 < length s → Refuse TooManyBits ≡ textGate s w
   unfolding textGate
   text-many h = simp (lt-leb (length s) 4294967296 h)
 
-  pub text-other : length s ≤ 4294967296 → allParentheses s ≡ false → Shut NotAParenthesis ≡ textGate s w
+  pub text-other : length s ≤ 4294967296 → allParentheses s ≡ false → Refuse NotAParenthesis ≡ textGate s w
   unfolding textGate
   text-other h a = simp (le-leb (length s) 4294967296 h, a)
 
@@ -84,7 +84,7 @@ module _ (s : List ℕ) (w : ℕ) where
   unfolding textGate
   text-row h a = simp (le-leb (length s) 4294967296 h, a)
 
-  pub text-fits : textGate s w ≡ Open → (length s ≤ 4294967296) × (wordsFor (length s) ≤ w)
+  pub text-fits : textGate s w ≡ Pass → (length s ≤ 4294967296) × (wordsFor (length s) ≤ w)
   text-fits g = by (leb (length s) 4294967296) refl (allParentheses s) refl
     where
       by : (a : Bool) → leb (length s) 4294967296 ≡ a → (b : Bool) → allParentheses s ≡ b → (length s ≤ 4294967296) × (wordsFor (length s) ≤ w)
@@ -93,10 +93,10 @@ module _ (s : List ℕ) (w : ℕ) where
       by false p b q = let z : _≡_ {A = ℕ} 0 1 = cc (text-many (leb-false (length s) 4294967296 p)) in absurd (omega arith)
 
 module _ (s ws : List ℕ) where
-  pub words-open : textGate s (length ws) ≡ Open → wordsOf s (wordsFor (length s)) ++ drop (wordsFor (length s)) ws ≡ textWords s ws
+  pub words-passed : textGate s (length ws) ≡ Pass → wordsOf s (wordsFor (length s)) ++ drop (wordsFor (length s)) ws ≡ textWords s ws
   unfolding textWords
-  words-open g = simp g
+  words-passed g = simp g
 
-  pub words-shut : (k : Refusal) → textGate s (length ws) ≡ Shut k → ws ≡ textWords s ws
+  pub words-refused : (k : Refusal) → textGate s (length ws) ≡ Refuse k → ws ≡ textWords s ws
   unfolding textWords
-  words-shut k g = simp g
+  words-refused k g = simp g

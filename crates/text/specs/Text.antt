@@ -7,8 +7,9 @@ use lib.Dec.{leb, eqb}
 use lib.ListN.{length, getD, drop}
 use Rattle.row.specs.declared.refusal.Refusal.the-variants.{TooManyBits, NotAParenthesis}
 use Rattle.row.specs.declared.gate.Gate.{Gate}
-use Rattle.row.specs.declared.gate.Gate.the-variants.{Shut}
-use Rattle.row.specs.Gates.{wordsFor, rowGate, kept}
+use Rattle.row.specs.declared.gate.Gate.the-variants.{Refuse}
+use Rattle.row.specs.Answer.{Answer, at}
+use Rattle.row.specs.Gates.{wordsFor, rowGate, through, kept}
 
 -- ( is the byte 40, ) the byte 41
 abbrev pub isParenthesis : ℕ → Bool
@@ -39,7 +40,11 @@ wordsOf s (suc m) = wordsOf s m ++ (wordOf s m ∷ [])
 
 -- refusals 2, 6, then 3, for a text and w words
 unfoldable pub textGate : List ℕ → ℕ → Gate
-textGate s w = cond (leb (length s) 4294967296) (cond (allParentheses s) (rowGate w (length s)) (Shut NotAParenthesis)) (Shut TooManyBits)
+textGate s w = cond (leb (length s) 4294967296) (cond (allParentheses s) (rowGate w (length s)) (Refuse NotAParenthesis)) (Refuse TooManyBits)
+
+-- the bit count where refusals 2, 6 and 3 are passed
+abbrev pub readAnswer : List ℕ → List ℕ → Answer
+readAnswer s ws = through (textGate s (length ws)) (at (length s))
 
 -- the words after the call: those that the text's bits need are written, those past them stay; a refusal leaves all
 unfoldable pub textWords : List ℕ → List ℕ → List ℕ

@@ -75,10 +75,10 @@ fn admit_text(text: &[u8], words: usize) -> Gate
 {
     let n = text.len();
     if 4294967296 < n {
-        return Gate::Shut(Refusal::TooManyBits);
+        return Gate::Refuse(Refusal::TooManyBits);
     }
     if !all_parentheses(text) {
-        return Gate::Shut(Refusal::NotAParenthesis);
+        return Gate::Refuse(Refusal::NotAParenthesis);
     }
     row::admit_row(words, n)
 }
@@ -89,8 +89,8 @@ pub fn read_text(text: &[u8], words: &mut [u64]) -> Read
     ensures { λ a. ⌜ now (words .exit) ≡ textWords (now (text .entry)) (now (words .entry)) ⌝ }
 {
     match admit_text(text, words.len()) {
-        Gate::Shut(k) => Read::Refused(k),
-        Gate::Open => {
+        Gate::Refuse(k) => Read::Refused(k),
+        Gate::Pass => {
             let n = text.len();
             write_words(text, words, row::words_for(n));
             Read::Bits(n)

@@ -1,4 +1,4 @@
 mod Twos
 mod Numbers
 pub mod Runs
-pub mod Lent
+pub mod Decoded

@@ -13,17 +13,17 @@ use lib.ListN.{length, getD, set, take, drop, length-append}
 use lib.Seq.{length-take-le, take-length, take-suc, getD-set-same, getD-set-other, ext-getD, take-at, drop-at, drop-drop}
 use borrow.Author.Count.{below-more}
 use Rattle.wire.specs.Limit.{fit}
-use Rattle.wire.specs.Bytes.{made, eight, putAt, bytesOf, wordsOver}
+use Rattle.wire.specs.Bytes.{tabulate, eight, putAt, bytesOf, wordsOver}
 
 -- ---- lists that are made
 module _ {A : Type 0} where
-  pub length-made : (g : ℕ → A) (i c : ℕ) → length (made g i c) ≡ c
-  unfolding made
+  pub length-made : (g : ℕ → A) (i c : ℕ) → length (tabulate g i c) ≡ c
+  unfolding tabulate
   length-made g i zero = refl
   length-made g i (suc c) = ap suc (length-made g (suc i) c)
 
-  pub made-at : (g : ℕ → A) (d : A) (i c j : ℕ) → j < c → getD (made g i c) j d ≡ g (i + j)
-  unfolding made
+  pub made-at : (g : ℕ → A) (d : A) (i c j : ℕ) → j < c → getD (tabulate g i c) j d ≡ g (i + j)
+  unfolding tabulate
   made-at g d i zero j h = absurd (omega arith)
   made-at g d i (suc c) zero h = ap g (omega arith)
   made-at g d i (suc c) (suc j) h = made-at g d (suc i) c j (omega arith) ∙ ap g (omega arith)
@@ -36,9 +36,9 @@ module _ {A : Type 0} where
       below-more (λ j. getD (set a i v) j d ≡ g j) i
       (λ j l. getD-set-other a i j v d (λ q. omega arith) ∙ f j l) (getD-set-same a i v d h ∙ e)
 
-  pub each-made : (a : List A) (d : A) (g : ℕ → A) (c : ℕ) → length a ≡ c → Each a d g c → a ≡ made g 0 c
+  pub each-made : (a : List A) (d : A) (g : ℕ → A) (c : ℕ) → length a ≡ c → Each a d g c → a ≡ tabulate g 0 c
   each-made a d g c e f =
-      ext-getD d a (made g 0 c) (e ∙ sym (length-made g 0 c))
+      ext-getD d a (tabulate g 0 c) (e ∙ sym (length-made g 0 c))
       (λ j l. f j (omega arith) ∙ ap g (omega arith) ∙ sym (made-at g d 0 c j (omega arith)))
 
 -- the first c elements of z are lent; there are bytes enough for them
@@ -46,11 +46,11 @@ pub prefix-fits : {A : Type 0} (m : ℕ) (z : List A) (c : ℕ) → c ≡ fit m 
 prefix-fits m z c e = let h : c ≤ length z = omega arith in rw (length-take-le c z h) (omega arith)
 
 -- they come back as l, in front of the rest
-pub prefix-made : {A : Type 0} (g : ℕ → A) (z l r : List A) (c : ℕ) → c ≤ length z → l ≡ made g 0 (length (take c z))
-    → take c (l ++ r) ≡ made g 0 c
+pub prefix-made : {A : Type 0} (g : ℕ → A) (z l r : List A) (c : ℕ) → c ≤ length z → l ≡ tabulate g 0 (length (take c z))
+    → take c (l ++ r) ≡ tabulate g 0 c
 prefix-made g z l r c h e =
     let t : length (take c z) ≡ c = length-take-le c z h in
-    let q : l ≡ made g 0 c = e ∙ ap (made g 0) t in
+    let q : l ≡ tabulate g 0 c = e ∙ ap (tabulate g 0) t in
     take-at l r c (ap length q ∙ length-made g 0 c) ∙ q
 
 -- ---- words that are written

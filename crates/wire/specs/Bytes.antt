@@ -20,17 +20,17 @@ abbrev pub numberAt : List ℕ → ℕ → ℤ
 numberAt s i = toZ w64 (wordAt s i)
 
 -- g i, g (i + 1), .., c of them
-unfoldable pub made : {A : Type 0} → (ℕ → A) → ℕ → ℕ → List A
-made g i zero = []
-made g i (suc c) = g i ∷ made g (suc i) c
+unfoldable pub tabulate : {A : Type 0} → (ℕ → A) → ℕ → ℕ → List A
+tabulate g i zero = []
+tabulate g i (suc c) = g i ∷ tabulate g (suc i) c
 
 -- the first c words of the bytes s
 abbrev pub wordsIn : List ℕ → ℕ → List ℕ
-wordsIn s c = made (λ j. wordAt s (8 * j)) 0 c
+wordsIn s c = tabulate (λ j. wordAt s (8 * j)) 0 c
 
 -- the first c signed numbers of the bytes s
 abbrev pub numbersIn : List ℕ → ℕ → List ℤ
-numbersIn s c = made (λ j. numberAt s (8 * j)) 0 c
+numbersIn s c = tabulate (λ j. numberAt s (8 * j)) 0 c
 
 -- the eight bytes of a word
 abbrev pub eight : ℕ → List ℕ

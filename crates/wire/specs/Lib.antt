@@ -1,4 +1,4 @@
 pub mod Answer
 pub mod Limit
 pub mod Bytes
-pub mod Lent
+pub mod Decoded

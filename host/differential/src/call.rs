@@ -2,9 +2,11 @@ use std::fmt;
 
 use crate::{Case, Rng};
 
-/// A call that writes nothing but a listing's answers, with its arguments.
+/// A call and its own arguments: every call except the build and the text reader.
+///
+/// `room` is the number of answers that fit into the output slice of a listing.
 #[derive(Clone, Copy, Debug, PartialEq, Eq)]
-#[allow(missing_docs)] // the calls and their arguments have the scope document's names
+#[allow(missing_docs)] // SCOPE, The calls, explains the names
 pub enum Call {
     FwdSearch { at: u64, r: i64 },
     BwdSearch { at: u64, r: i64 },
@@ -30,8 +32,10 @@ pub enum Call {
     AsBuilt,
 }
 
-/// An answer in the numbers that the C functions give: a position, 1 or 0 for yes and no, -1 for nothing, -1 less the number
-/// for a refusal. A listing that was made answers the numbers of its steps.
+/// An answer, encoded as the C functions encode it.
+///
+/// A `Value` is a position, 1 for yes, 0 for no, -1 for nothing, or -1 - k for refusal k. `Steps` holds the encoded answers of
+/// the steps of a listing.
 #[derive(Clone, Debug, PartialEq, Eq)]
 #[allow(missing_docs)]
 pub enum Answer {
@@ -40,7 +44,7 @@ pub enum Answer {
 }
 
 impl Answer {
-    /// The answer of a refusal's number.
+    /// Encodes the refusal that has this number.
     pub fn refused(number: u8) -> Self {
         Answer::Value(-1 - i64::from(number))
     }
@@ -76,7 +80,7 @@ impl fmt::Display for Answer {
 }
 
 impl Call {
-    /// The handles that a call takes.
+    /// Returns the arguments of the call that have to be handles.
     pub fn handles(self) -> impl Iterator<Item = u64> {
         let (first, second) = match self {
             Call::Parent { node }
@@ -96,12 +100,12 @@ impl Call {
         first.into_iter().chain(second)
     }
 
-    /// Whether a call is lent nodes.
+    /// Tests whether the call takes a node buffer.
     pub fn takes_nodes(self) -> bool {
         !matches!(self, Call::Root | Call::FirstChild { .. } | Call::IsLeaf { .. } | Call::OneTree)
     }
 
-    /// The level that a call takes.
+    /// Returns the argument of the call that is a level.
     pub fn level(self) -> Option<u64> {
         match self {
             Call::LevelAncestor { level, .. } | Call::LevelLeftmost { level } | Call::LevelRightmost { level } => {
@@ -111,7 +115,8 @@ impl Call {
         }
     }
 
-    /// Every call at every position up to a few past the row's end, with every r and level in reach and a few beyond.
+    /// Returns every call at every position of a row and at some past its end. They have every `r` and level that the row can
+    /// reach, and some beyond.
     pub fn every(bits: usize) -> Vec<Call> {
         let end = bits as u64 + 2;
         let positions: Vec<u64> = (0..=end).chain([u64::MAX]).collect();
@@ -144,7 +149,7 @@ impl Call {
         calls
     }
 
-    /// Any call on a case, with arguments that mostly fit it.
+    /// Returns a random call whose arguments mostly fit the case.
     pub fn any(rng: &mut Rng, case: &Case) -> Call {
         let bits = case.bits;
         let at = position(rng, case);
@@ -176,7 +181,7 @@ impl Call {
     }
 }
 
-/// A handle, now and then any position.
+/// Returns a handle most of the time, and any position once in six times.
 fn handle(rng: &mut Rng, case: &Case) -> u64 {
     let at = position(rng, case);
     if rng.once_in(6) {
@@ -186,7 +191,7 @@ fn handle(rng: &mut Rng, case: &Case) -> u64 {
     }
 }
 
-/// A position: anywhere, at a block's edge, near the row's end, or far past it.
+/// Returns a position: anywhere in the row, at the edge of a block, near the end of the row, or far past it.
 fn position(rng: &mut Rng, case: &Case) -> u64 {
     let (bits, block) = (case.bits, case.block);
     let within = rng.below(bits.max(1));
@@ -199,7 +204,7 @@ fn position(rng: &mut Rng, case: &Case) -> u64 {
     }
 }
 
-/// An r: near, anywhere in the row's reach, at that reach's edge, or at an end of its type.
+/// Returns an `r`: near 0, anywhere from `-bits` to `bits`, at an edge of that range, or at an end of `i64`.
 fn movement(rng: &mut Rng, bits: u64) -> i64 {
     let reach = bits.min(1 << 33) as i64;
     match rng.below(8) {
@@ -211,7 +216,7 @@ fn movement(rng: &mut Rng, bits: u64) -> i64 {
     }
 }
 
-/// A level: near, anywhere, or at an edge.
+/// Returns a level: near 0, anywhere up to the bit count, or at a limit.
 fn level(rng: &mut Rng, bits: u64) -> u64 {
     match rng.below(8) {
         0 => rng.below(bits.min(1 << 33) + 3),
@@ -220,7 +225,7 @@ fn level(rng: &mut Rng, bits: u64) -> u64 {
     }
 }
 
-/// A listing's room: mostly enough, at times too little or more than any listing needs.
+/// Returns the room for a listing: mostly enough, at times too little, at times more than any listing needs.
 fn room(rng: &mut Rng) -> usize {
     match rng.below(16) {
         0..4 => rng.index(5),

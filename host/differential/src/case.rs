@@ -6,26 +6,26 @@ use crate::plain::{self, Lent, MOST_BYTES, MOST_WORDS};
 use crate::theirs::{original_over, Original};
 use crate::{Answer, Call, Rng, Row, Tally, BLOCKS};
 
-/// What the calls are lent: words, a bit count, nodes and a block size, right or wrong.
+/// The arguments that calls share: words, a bit count, a node buffer and a block size. Each of them may be wrong.
 pub struct Case {
     /// The words of the row.
     pub words: Vec<u64>,
     /// The bit count.
     pub bits: u64,
-    /// The node numbers.
+    /// The node buffer.
     pub nodes: Vec<i64>,
     /// The block size.
     pub block: u64,
-    /// The words and the nodes as bytes, with up to seven more that do not count.
+    /// The words and the node buffer as bytes, each with up to seven extra bytes that do not count.
     bytes: (Vec<u8>, Vec<u8>),
-    /// Copies of all that is lent, to compare with after each call.
+    /// Copies of all slices. After each call the slices have to be equal to them.
     copies: Copies,
-    /// The row, where refusals 2 and 3 are passed.
+    /// The row, if refusals 2 and 3 do not apply.
     row: Option<Row>,
-    /// The refusal that calls over the nodes answer whatever they are asked.
+    /// The refusal, 1 to 4, of every call that takes the node buffer, or `Ok` if none applies.
     standing: Result<(), u8>,
     as_built: bool,
-    /// The original's trees over the row: of the words as lent, and of the row alone.
+    /// Two trees of the original: over all words, and over the words that the row needs.
     originals: Option<[Box<dyn Original>; 2]>,
 }
 
@@ -35,16 +35,16 @@ struct Copies {
     bytes: (Vec<u8>, Vec<u8>),
 }
 
-/// Making a case, and what is so of it.
+/// Constructors and properties.
 impl Case {
-    /// A case of any content.
+    /// Creates a case from any arguments.
     pub fn new(words: Vec<u64>, bits: u64, nodes: Vec<i64>, block: u64, rng: &mut Rng) -> Self {
         let lent = Lent { words: &words, bits, nodes: &nodes, block, most: MOST_WORDS };
         let standing = lent.admit();
         let as_built = standing.is_ok() && lent.as_built();
         let row = lent.admit_row().map(|()| Row::of_words(&words, bits as usize)).ok();
         let originals = row.as_ref().map(|row| {
-            // with Rust's checks the original does not take surplus words
+            // With debug assertions on, the original panics on surplus words.
             let lent = if cfg!(debug_assertions) { &row.words } else { &words };
             let block = if BLOCKS.contains(&block) { block } else { BLOCKS[0] };
             [lent, &row.words].map(|words| original_over(words, row.bits, block))
@@ -54,7 +54,7 @@ impl Case {
         Case { words, bits, nodes, block, bytes, copies, row, standing, as_built, originals }
     }
 
-    /// A row with its nodes as built, surplus words and bits past its end.
+    /// Creates a case with a node buffer as built. It has surplus words, surplus entries, and random bits past the end of the row.
     pub fn built(row: &Row, block: u64, rng: &mut Rng) -> Self {
         let words = row.with_surplus(rng);
         let mut nodes = Lent { words: &words, bits: row.bits as u64, nodes: &[], block, most: MOST_WORDS }.build();
@@ -62,35 +62,37 @@ impl Case {
         Case::new(words, row.bits as u64, nodes, block, rng)
     }
 
-    /// The row, unless there are too many bits or too few words.
+    /// Returns the row, or `None` if there are too many bits or too few words.
     pub fn row(&self) -> Option<&Row> {
         self.row.as_ref()
     }
 
-    /// The refusal, of those numbered 1 to 4, that calls over the nodes answer whatever they are asked.
+    /// Returns the refusal, 1 to 4, of every call that takes the node buffer, or `Ok` if none applies.
     pub fn standing(&self) -> Result<(), u8> {
         self.standing
     }
 
-    /// Whether the nodes are those that a build writes for the row.
+    /// Tests whether the node buffer is as built.
     pub fn is_as_built(&self) -> bool {
         self.as_built
     }
 
-    /// Whether v is a handle of the row.
+    /// Tests whether `v` is a handle of the row.
     pub fn is_handle(&self, v: u64) -> bool {
         self.row().is_some_and(|row| v < self.bits && row.opens(v as usize))
     }
 
-    /// The first handle from a position on, within a word or so; the position itself if there is none.
+    /// Returns the first handle among the 64 positions from `at` on, or `at` itself if there is none.
     pub fn handle_from(&self, at: u64) -> u64 {
         (at..at.saturating_add(64)).find(|&v| self.is_handle(v)).unwrap_or(at)
     }
 }
 
-/// Asking and comparing.
+/// Calls and comparisons.
 impl Case {
-    /// Asks a call every way and compares: panics at a difference that is not known.
+    /// Makes a call over words and over bytes, and compares its answers with those of `plain` and of the original.
+    ///
+    /// Panics if an answer differs, unless [`Known`] names the difference. Panics if the call changes a slice.
     pub fn check(&self, call: Call, tally: &mut Tally) {
         let plain = plain::ask(self.lent(MOST_WORDS), call);
         let ours = ours::over_words(&self.words, self.bits, &self.nodes, self.block, call);
@@ -105,7 +107,7 @@ impl Case {
         tally.count(&plain, !self.as_built);
     }
 
-    /// Holds an answer against the original's, unless the question falls under a known difference.
+    /// Compares an answer with the original's answer, unless the call falls under a known difference.
     fn check_original(&self, call: Call, ours: &Answer, tally: &mut Tally) {
         let known = Known::of(self, call);
         if let Some(known) = known {
@@ -136,14 +138,15 @@ impl Case {
         }
     }
 
-    /// What was lent has to be as it was.
+    /// Panics if the call changed a slice.
     fn unchanged(&self, call: Call) {
         let copies = black_box(&self.copies);
         if self.words != copies.words || self.nodes != copies.nodes || self.bytes != copies.bytes {
-            self.differs(&format!("{call:?} changed what it was lent"));
+            self.differs(&format!("{call:?} changed a slice"));
         }
     }
 
+    /// Panics with a description of the difference and of the case.
     #[cold]
     fn differs(&self, what: &str) -> ! {
         let row = match self.row() {

@@ -1,9 +1,9 @@
-//! What no honest caller lends: damaged copies, foreign nodes, wrong counts, short buffers.
+//! Wrong arguments: damaged node buffers, foreign node buffers, wrong bit counts and block sizes, short slices.
 
 use crate::plain::Lent;
 use crate::{rows, Case, Rng, Row};
 
-/// A case that starts from a row with its nodes as built, of which something is then made wrong.
+/// Creates a case that starts with a node buffer as built and then gets one or two random faults.
 pub fn any(rng: &mut Rng, most: usize) -> Case {
     let row = rows::any(rng, most);
     let fit = any_block(rng);
@@ -24,12 +24,12 @@ pub fn any(rng: &mut Rng, most: usize) -> Case {
     Case::new(words, bits, nodes, block, rng)
 }
 
-/// The nodes of a row.
+/// Returns the entries that a build writes for a row.
 fn build(row: &Row, block: u64) -> Vec<i64> {
     Lent { words: &row.words, bits: row.bits as u64, nodes: &[], block, most: u64::MAX }.build()
 }
 
-/// A block size that is taken: one that the original knows, or another.
+/// Returns a valid block size: one that the original is compiled for, or another.
 fn any_block(rng: &mut Rng) -> u64 {
     match rng.below(8) {
         0 => 8 * (1 + rng.below(8192)),
@@ -38,7 +38,7 @@ fn any_block(rng: &mut Rng) -> u64 {
     }
 }
 
-/// Mostly a block size that is refused.
+/// Returns a block size that is invalid most of the time.
 fn wrong_block(rng: &mut Rng) -> u64 {
     match rng.below(3) {
         0 => rng.pick(&[0, 1, 4, 7, 9, 12, 65_528, 65_536, 65_537, 65_544, 1 << 32, 1 << 63, u64::MAX]),
@@ -47,7 +47,7 @@ fn wrong_block(rng: &mut Rng) -> u64 {
     }
 }
 
-/// A bit count near the right one, at a limit, or anything.
+/// Returns a bit count: near the right one, at a limit, or anything.
 fn any_bits(rng: &mut Rng, bits: u64) -> u64 {
     match rng.below(4) {
         0 => bits.saturating_add(rng.below(20)).saturating_sub(10),
@@ -57,7 +57,7 @@ fn any_bits(rng: &mut Rng, bits: u64) -> u64 {
     }
 }
 
-/// A number: small, anywhere in range, at the range's edge, or at an end of its type.
+/// Returns an entry for a node buffer: small, anywhere from -2^32 to 2^32, at an edge of that range, or at an end of `i64`.
 fn any_number(rng: &mut Rng) -> i64 {
     const EDGE: i64 = 1 << 32;
     match rng.below(16) {
@@ -70,7 +70,7 @@ fn any_number(rng: &mut Rng) -> i64 {
     }
 }
 
-/// Some numbers changed: by a little, or to anything.
+/// Changes some entries: by a small amount, or to any value.
 fn damage(rng: &mut Rng, nodes: &mut [i64]) {
     if nodes.is_empty() {
         return;
@@ -81,7 +81,7 @@ fn damage(rng: &mut Rng, nodes: &mut [i64]) {
     }
 }
 
-/// A bit changed.
+/// Flips one bit.
 fn flip(rng: &mut Rng, words: &mut [u64]) {
     if !words.is_empty() {
         let k = rng.index(words.len());
@@ -89,13 +89,13 @@ fn flip(rng: &mut Rng, words: &mut [u64]) {
     }
 }
 
-/// Fewer than there were, mostly by a little.
+/// Removes elements from the end, mostly a few.
 fn shorten<T>(rng: &mut Rng, values: &mut Vec<T>) {
     let less = if rng.once_in(3) { rng.index(values.len() + 1) } else { rng.index(4) };
     values.truncate(values.len().saturating_sub(less));
 }
 
-/// Numbers cut, or filled up with others, to a length.
+/// Cuts the entries to a length, or fills them up with random ones.
 fn resized(mut nodes: Vec<i64>, length: usize, rng: &mut Rng) -> Vec<i64> {
     nodes.truncate(length);
     while nodes.len() < length {

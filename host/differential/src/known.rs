@@ -1,32 +1,34 @@
-//! Where the original is known to answer otherwise: a predicate for each entry of `docs/DIFFERENCES.md`.
+//! The known differences between the original and the vault, as predicates. `docs/DIFFERENCES.md` lists them.
 //!
-//! A question that falls under one is counted, and is not held against the original; [`plain`](crate::plain) decides it. Some
-//! entries differ only in a build with Rust's checks (debug assertions and overflow checks), where the original panics: in a
-//! release build their questions are compared like any other. `tests/differences.rs` shows each by its smallest input.
+//! A call that falls under a known difference is counted. It is compared with [`plain`](crate::plain) but not with the original,
+//! except for [`Known::Surplus`].
+//!
+//! Some differences exist only in a build with debug assertions and overflow checks, where the original panics. In a release
+//! build these calls are compared like all others. `tests/differences.rs` tests the smallest input of each difference.
 
 use crate::{Call, Case};
 
 /// A known difference.
 #[derive(Clone, Copy, Debug, PartialEq, Eq)]
 pub enum Known {
-    /// The empty row: `level_leftmost(0)` gives 0 there. With checks forward searches panic.
+    /// The empty row: `level_leftmost(0)` of the original returns 0. With checks on, its forward searches panic.
     EmptyRow,
-    /// `level_rightmost` on a row without opens: with checks it panics.
+    /// A row without open bits: with checks on, `level_rightmost` of the original panics.
     NoOpens,
-    /// Levels of 2^63 and more: they become negative numbers.
+    /// A level of 2^63 or more: the original converts it to a negative number.
     HugeLevel,
-    /// An r, or a level, so near the ends of i64 that a sum can overflow: with checks it panics.
+    /// An `r` or a level so near an end of `i64` that a sum can overflow: with checks on, the original panics.
     ExtremeR,
-    /// A handle that is none: it is refused here.
+    /// An argument that is not a handle: the vault refuses it.
     BadHandle,
-    /// Nodes that no build for the row wrote: the original's are its own.
+    /// A foreign node buffer: the original always uses the one that it builds itself.
     ForeignNodes,
-    /// Too many bits, or too few words or node numbers: the original's are its own.
+    /// Too many bits, or too few words or entries: the original owns its row and its node buffer.
     TooShort,
-    /// A block size that is refused here.
+    /// A block size that the vault refuses.
     OddBlock,
-    /// `level_rightmost` over surplus words: the original takes their bits for the row's. The only difference at which the
-    /// original is asked nevertheless, over the row alone.
+    /// `level_rightmost` with surplus words: the original counts their bits as bits of the row. This is the only difference
+    /// where an answer of the original is still compared: the answer of its tree without the surplus words.
     Surplus,
 }
 
@@ -44,7 +46,7 @@ impl Known {
         Known::Surplus,
     ];
 
-    /// Whether a question falls under this difference.
+    /// Tests whether a call falls under this difference.
     pub fn covers(self, case: &Case, call: Call) -> bool {
         let checks = cfg!(debug_assertions);
         let row = case.row();
@@ -68,18 +70,18 @@ impl Known {
         }
     }
 
-    /// The first known difference that a question falls under.
+    /// Returns the first known difference that a call falls under.
     pub fn of(case: &Case, call: Call) -> Option<Known> {
         Known::ALL.into_iter().find(|known| known.covers(case, call))
     }
 }
 
-/// Whether a call begins with a forward search that no test of the position precedes.
+/// Tests whether the original starts the call with a forward search and does not test the position first.
 fn searches_forward(call: Call) -> bool {
     matches!(call, Call::FwdSearch { .. } | Call::LevelLeftmost { .. })
 }
 
-/// How far a call's first search looks, where an argument says so.
+/// Returns the change of the excess that the first search of a call looks for, if an argument determines it.
 fn movement(call: Call) -> Option<i64> {
     match call {
         Call::FwdSearch { r, .. } | Call::BwdSearch { r, .. } => Some(r),
@@ -87,7 +89,7 @@ fn movement(call: Call) -> Option<i64> {
     }
 }
 
-/// Whether what a row's bits add to r, or to -r, can leave an i64.
+/// Tests whether `r` or `-r` can leave the range of `i64` when the bits of a row are added to it.
 fn can_overflow(r: i64, bits: u64) -> bool {
     i128::from(r).abs() + i128::from(bits) > i128::from(i64::MAX)
 }

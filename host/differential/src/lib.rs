@@ -1,9 +1,13 @@
-//! The vault's calls, asked beside the original and beside a second implementation of the scope document.
+//! Compares the calls of the vault with the original and with [`plain`], a second implementation of SCOPE
+//! (`docs/SCOPE.md`).
 //!
-//! A [`Case`] is a row with nodes, a bit count and a block size, any of which may be wrong. It is asked a [`Call`] over words
-//! and over bytes; both answers have to be [`plain`]'s, and what was lent has to be as it was. Where the original can be asked,
-//! its answer has to be the same too, unless the question falls under a difference that [`known`] names. Those are counted in the
-//! [`Tally`], so that none passes unseen.
+//! A [`Case`] is a row with a bit count, a node buffer and a block size, each of which may be wrong. A [`Call`] is made on it
+//! over words and over bytes.
+//!
+//! - Both answers have to be equal to the answer of [`plain`].
+//! - The call must not change any slice.
+//! - If the original can answer the call, its answer has to be the same. The exceptions are the differences that [`known`]
+//!   names. The [`Tally`] counts them, so that none goes unnoticed.
 #![forbid(unsafe_code)]
 
 mod call;

@@ -1,13 +1,13 @@
-//! The vault's calls, over words and over bytes.
+//! The calls of the vault, over words and over bytes.
 
 use vault::Refusal;
 
 use crate::{Answer, Call, Rng};
 
-/// What fills the room for a listing's answers, to see what was written.
+/// The byte that fills the output slice of a listing. It shows which part the listing writes.
 const UNWRITTEN: u8 = 0x5a;
 
-/// The function that asks a call one way or the other.
+/// Generates the function that makes a call through the module `words` or `bytes` of the vault.
 macro_rules! asking {
     ($name:ident, $way:ident, $Word:ty, $Number:ty, $list:ident) => {
         pub fn $name(row: &[$Word], bits: u64, nodes: &[$Number], block: u64, call: Call) -> Answer {
@@ -51,33 +51,33 @@ fn value(answer: Result<impl Into<Answer>, Refusal>) -> Answer {
     answer.map_or_else(|refusal| Answer::refused(refusal.number()), Into::into)
 }
 
-/// A listing into so much room. What it does not write has to stay.
+/// Makes a listing with room for a number of answers. The rest of the output slice has to be unchanged.
 fn list_numbers(room: usize, list: impl FnOnce(&mut [i64]) -> Result<u64, Refusal>) -> Answer {
     let unwritten = i64::from_le_bytes([UNWRITTEN; 8]);
     let mut out = vec![unwritten; room];
     let written = list(&mut out);
     let (steps, rest) = out.split_at(written.unwrap_or(0) as usize);
-    assert!(rest.iter().all(|&number| number == unwritten), "a listing wrote past its answers");
+    assert!(rest.iter().all(|&number| number == unwritten), "the listing wrote past its last answer");
     value(written.map(|_| Answer::Steps(steps.to_vec())))
 }
 
-/// A listing into bytes, with some left over that do not count.
+/// Makes a listing into bytes. The output slice has up to seven extra bytes that do not count.
 fn list_bytes(room: usize, list: impl FnOnce(&mut [u8]) -> Result<u64, Refusal>) -> Answer {
     let mut out = vec![UNWRITTEN; 8 * room + room % 8];
     let written = list(&mut out);
     let (steps, rest) = out.split_at(8 * written.unwrap_or(0) as usize);
-    assert!(rest.iter().all(|&byte| byte == UNWRITTEN), "a listing wrote past its answers");
+    assert!(rest.iter().all(|&byte| byte == UNWRITTEN), "the listing wrote past its last answer");
     value(written.map(|_| Answer::Steps(numbers_of(steps))))
 }
 
-/// Words or numbers as they cross, with up to seven bytes more.
+/// Returns words or entries as bytes, with up to seven extra bytes.
 pub fn bytes_of<T: Copy>(values: &[T], bytes: impl Fn(T) -> [u8; 8], rng: &mut Rng) -> Vec<u8> {
     let more = rng.index(8);
     let tail = rng.any().to_le_bytes();
     values.iter().flat_map(|&value| bytes(value)).chain(tail[..more].iter().copied()).collect()
 }
 
-/// The numbers that bytes hold.
+/// Returns the `i64` values that the bytes encode.
 pub fn numbers_of(bytes: &[u8]) -> Vec<i64> {
     bytes.chunks_exact(8).map(|eight| i64::from_le_bytes(eight.try_into().expect("eight bytes"))).collect()
 }

@@ -1,11 +1,11 @@
-//! Rounds of random questions: one case each, and many calls on it.
+//! Rounds of random calls. A round has one case and many calls on it.
 
 use crate::{check_build, check_text, hostile, rows, Call, Case, Rng, Tally, BLOCKS};
 
-/// The calls of a round.
+/// The number of calls per round.
 const CALLS: usize = 200;
 
-/// A round of any kind over rows of up to `most` bits: half of them hostile.
+/// Runs a round of a random kind over a row of up to `most` bits. Half of these rounds have wrong arguments.
 pub fn any(rng: &mut Rng, most: usize, tally: &mut Tally) {
     match rng.below(8) {
         0..3 => {
@@ -17,7 +17,7 @@ pub fn any(rng: &mut Rng, most: usize, tally: &mut Tally) {
     }
 }
 
-/// A row with its nodes as built, held against the original too.
+/// Runs a round on a case with a node buffer as built. Its answers are also compared with the original.
 pub fn honest(rng: &mut Rng, most: usize, block: u64, tally: &mut Tally) {
     let row = rows::any(rng, most);
     let case = Case::built(&row, block, rng);
@@ -25,20 +25,21 @@ pub fn honest(rng: &mut Rng, most: usize, block: u64, tally: &mut Tally) {
     ask(&case, rng, tally);
 }
 
-/// A case of which something is wrong.
+/// Runs a round on a case with wrong arguments.
 pub fn dishonest(rng: &mut Rng, most: usize, tally: &mut Tally) {
     let case = hostile::any(rng, most);
     check_build(&case.words, case.bits, &case.nodes, case.block, rng, tally);
     ask(&case, rng, tally);
 }
 
+/// Makes random calls on a case.
 fn ask(case: &Case, rng: &mut Rng, tally: &mut Tally) {
     for _ in 0..CALLS {
         case.check(Call::any(rng, case), tally);
     }
 }
 
-/// A text: mostly parentheses, into mostly enough words.
+/// Runs the text readers on one text. The text is mostly valid, and the row mostly has enough words.
 pub fn writing(rng: &mut Rng, most: usize, tally: &mut Tally) {
     let mut text = rows::any(rng, most).text().into_bytes();
     if rng.once_in(3) && !text.is_empty() {

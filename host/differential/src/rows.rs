@@ -1,18 +1,18 @@
-//! Rows of parentheses, made by rule or at random.
+//! Rows of parentheses: all rows of a size, and random rows.
 
 use crate::Rng;
 
-/// A row: its words, no more than it needs and unused bits 0, and its bits.
+/// A row without surplus: it has only the words that its bits need, and unused bits are 0.
 #[derive(Clone, Debug, PartialEq, Eq)]
 pub struct Row {
     /// Bit i of the row is bit `i % 64` of word `i / 64`.
     pub words: Vec<u64>,
-    /// How many bits there are.
+    /// The bit count.
     pub bits: usize,
 }
 
 impl Row {
-    /// The row of some bits, `true` where one opens.
+    /// Creates a row from its bits. `true` is an open bit.
     pub fn new(bits: &[bool]) -> Self {
         let mut words = vec![0; bits.len().div_ceil(64)];
         for (i, _) in bits.iter().enumerate().filter(|(_, &open)| open) {
@@ -21,43 +21,43 @@ impl Row {
         Row { words, bits: bits.len() }
     }
 
-    /// The first `bits` bits of some words.
+    /// Creates a row from the first `bits` bits of the words.
     pub fn of_words(words: &[u64], bits: usize) -> Self {
         Row::new(&(0..bits).map(|i| words[i / 64] >> (i % 64) & 1 == 1).collect::<Vec<_>>())
     }
 
-    /// Whether bit i opens.
+    /// Tests whether bit `i` is an open bit.
     pub fn opens(&self, i: usize) -> bool {
         self.words[i / 64] >> (i % 64) & 1 == 1
     }
 
-    /// How many bits open.
+    /// Returns the number of open bits.
     pub fn count_opens(&self) -> u64 {
         self.words.iter().map(|word| u64::from(word.count_ones())).sum()
     }
 
-    /// The row as parentheses.
+    /// Returns the row as a text of parentheses.
     pub fn text(&self) -> String {
         (0..self.bits).map(|i| if self.opens(i) { '(' } else { ')' }).collect()
     }
 
-    /// The words with bits past the row's end and with surplus words, which never matter.
+    /// Returns the words with random bits past the end of the row and with up to two surplus words. Neither ever matters.
     pub fn with_surplus(&self, rng: &mut Rng) -> Vec<u64> {
         let mut words = self.words.clone();
         if !self.bits.is_multiple_of(64) {
-            *words.last_mut().expect("bits stand in words") |= rng.any() << (self.bits % 64);
+            *words.last_mut().expect("a row with bits has words") |= rng.any() << (self.bits % 64);
         }
         words.extend((0..rng.below(3)).map(|_| rng.any()));
         words
     }
 }
 
-/// Every row of so many bits.
+/// Returns every row of `bits` bits.
 pub fn every(bits: usize) -> impl Iterator<Item = Row> {
     (0..1u64 << bits).map(move |word| Row::of_words(&[word], bits))
 }
 
-/// A row of the kind and up to the size that random runs ask: half of them trees.
+/// Returns a random row of up to `most` bits. Half of these rows are trees, and a tree has at least two bits.
 pub fn any(rng: &mut Rng, most: usize) -> Row {
     let bits = match rng.below(4) {
         0 => rng.index(most.min(40) + 1),
@@ -75,13 +75,13 @@ pub fn any(rng: &mut Rng, most: usize) -> Row {
     }
 }
 
-/// A tree drawn uniformly from those of so many bits, an even number.
+/// Returns a random tree. All trees of `bits` bits, an even number, are equally likely.
 pub fn uniform_tree(rng: &mut Rng, bits: usize) -> Row {
     let mut row = Vec::with_capacity(bits);
     row.push(true);
     let mut excess = 0u128;
     for left in (1..=bits as u128 - 2).rev() {
-        // the share of the ways on that open next
+        // The share of the possible continuations of the row whose next bit is an open bit.
         let opens = (u128::from(rng.any()) * (2 * left * (excess + 1))) >> 64 < (excess + 2) * (left - excess);
         row.push(opens);
         excess = if opens { excess + 1 } else { excess - 1 };
@@ -90,7 +90,7 @@ pub fn uniform_tree(rng: &mut Rng, bits: usize) -> Row {
     Row::new(&row)
 }
 
-/// A spine of nodes, one in ten of which is a leaf beside it.
+/// Returns a long path of outline nodes. About one outline node in ten is a leaf beside the path.
 pub fn path(rng: &mut Rng, bits: usize) -> Row {
     let mut row = Vec::with_capacity(bits);
     let mut open = 0;
@@ -106,7 +106,7 @@ pub fn path(rng: &mut Rng, bits: usize) -> Row {
     Row::new(&row)
 }
 
-/// A random recursive tree: each node's parent is any of those before it, so that it is shallow and wide.
+/// Returns a random recursive tree: the parent of each outline node is any earlier one. Such a tree is shallow and wide.
 pub fn bushy(rng: &mut Rng, bits: usize) -> Row {
     const NONE: u32 = u32::MAX;
     let nodes = bits / 2;
@@ -131,13 +131,13 @@ pub fn bushy(rng: &mut Rng, bits: usize) -> Row {
     Row::new(&row)
 }
 
-/// Bits that open with one chance throughout.
+/// Returns random bits. Each is an open bit with the same probability.
 fn biased(rng: &mut Rng, bits: usize) -> Row {
     let opens = 1 + rng.below(15);
     Row::new(&(0..bits).map(|_| rng.below(16) < opens).collect::<Vec<_>>())
 }
 
-/// Stretches of equal bits.
+/// Returns stretches of equal bits.
 fn stretches(rng: &mut Rng, bits: usize) -> Row {
     let mut row = Vec::with_capacity(bits + 100);
     while row.len() < bits {
@@ -148,7 +148,7 @@ fn stretches(rng: &mut Rng, bits: usize) -> Row {
     Row::new(&row)
 }
 
-/// All opens, then all closes.
+/// Returns a row whose first half is open bits and whose second half is close bits.
 fn nested(bits: usize) -> Row {
     Row::new(&(0..bits).map(|i| i < bits.div_ceil(2)).collect::<Vec<_>>())
 }

@@ -3,28 +3,29 @@ use std::fmt;
 use crate::known::Known;
 use crate::Answer;
 
-/// What has been compared so far.
+/// Counts of the calls compared so far.
 #[derive(Clone, Debug, Default, PartialEq, Eq)]
 pub struct Tally {
-    /// Calls of the static libraries, each held against the second implementation.
+    /// Calls of the static libraries. Each is compared with `plain`, the second implementation.
     pub calls: u64,
-    /// Calls on nodes that are not as built, or on numbers that are refused.
+    /// Calls on cases whose node buffer is not as built or to which one of the refusals 1 to 4 applies.
     pub hostile: u64,
-    /// Answers that were held against the original too.
+    /// Answers that are also compared with the original.
     pub original: u64,
-    /// Answers over bytes that were positions, counts, yes or no; nothing; and the refusals 1 to 8.
+    /// Answers over bytes, by kind. Index 0 counts positions, yes, no and listings. Index 1 counts nothing. Index k + 1 counts
+    /// refusal k.
     pub answers: [u64; 10],
-    /// Questions that fall under a known difference, in the order of [`Known::ALL`].
+    /// Calls that fall under each known difference, in the order of [`Known::ALL`].
     pub known: [u64; Known::ALL.len()],
 }
 
 impl Tally {
-    /// How many questions fell under a known difference.
+    /// Returns the number of calls that fall under a known difference.
     pub fn of(&self, known: Known) -> u64 {
         self.known[known as usize]
     }
 
-    /// Counts a question that was asked over words and over bytes.
+    /// Counts a call that is made over words and over bytes.
     pub(crate) fn count(&mut self, answer: &Answer, hostile: bool) {
         self.calls += 2;
         self.hostile += if hostile { 2 } else { 0 };
@@ -39,7 +40,7 @@ impl fmt::Display for Tally {
     fn fmt(&self, f: &mut fmt::Formatter<'_>) -> fmt::Result {
         writeln!(
             f,
-            "{} calls compared, {} of them hostile; {} answers with the original's",
+            "{} calls compared, {} of them hostile; {} answers also compared with the original",
             self.calls, self.hostile, self.original
         )?;
         write!(f, "  answered {}, nothing {}, refused", self.answers[0], self.answers[1])?;

@@ -2,19 +2,19 @@ use original::{BpTree, IsAncestor, LevelTree, Tree};
 
 use crate::{Answer, Call};
 
-/// The block sizes that the original is compiled for: there a block size is part of a tree's type.
+/// The block sizes that the original is compiled for. In the original the block size is part of the type of a tree.
 pub const BLOCKS: [u64; 4] = [8, 16, 64, 512];
 
-/// A tree of the original, of any block size.
+/// A tree of the original with any block size.
 pub trait Original {
-    /// Asks a call; nothing for those that the original lacks.
+    /// Makes a call. Returns `None` if the original does not have it.
     fn ask(&self, call: Call) -> Option<Answer>;
 }
 
-/// The original's tree over words and so many bits.
+/// Builds the tree of the original over the first `bits` bits of the words.
 ///
 /// # Panics
-/// If the original is not compiled for the block size.
+/// Panics if the original is not compiled for the block size.
 pub fn original_over(words: &[u64], bits: usize, block: u64) -> Box<dyn Original> {
     let row = original::row(words.to_vec(), bits);
     match block {
@@ -22,7 +22,7 @@ pub fn original_over(words: &[u64], bits: usize, block: u64) -> Box<dyn Original
         16 => Box::new(BpTree::<16>::from_bit_vector(row)),
         64 => Box::new(BpTree::<64>::from_bit_vector(row)),
         512 => Box::new(BpTree::<512>::from_bit_vector(row)),
-        _ => panic!("the original is not compiled for blocks of {block}"),
+        _ => panic!("the original is not compiled for the block size {block}"),
     }
 }
 
@@ -56,7 +56,7 @@ impl<const BLOCK: usize> Original for BpTree<BLOCK> {
     }
 }
 
-/// A listing's answers with the nothing that ends them, as far as there is room.
+/// Returns the answers of a listing and the -1 that ends them, but at most `room` values.
 fn steps(children: impl Iterator<Item = usize>, room: usize) -> Answer {
     Answer::Steps(children.map(|child| child as i64).chain([-1]).take(room).collect())
 }

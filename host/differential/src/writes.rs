@@ -1,14 +1,16 @@
-//! The two calls that write what they are lent: the build, and the reader of text.
+//! Comparison of the two calls that write rows and node buffers: the build and the text reader.
 
 use crate::ours::{bytes_of, numbers_of};
 use crate::plain::{self, Lent, MOST_BYTES, MOST_WORDS};
 use crate::{Rng, Row, Tally};
 
-/// Builds into lent numbers and into lent bytes, both filled with anything: what is written has to be the nodes, and the rest
-/// as it was. The numbers have to be the original's too, where the row is one that it can be given.
+/// Compares builds over words and over bytes with `plain`, and the entries also with the original.
+///
+/// The node buffer may start with any content. The build has to write exactly the entries of the row and leave the rest
+/// unchanged. If the build is not refused, the entries have to be those of the original.
 pub fn check_build(words: &[u64], bits: u64, nodes: &[i64], block: u64, rng: &mut Rng, tally: &mut Tally) {
     let told =
-        |way: &str| format!("build over {way}: bits {bits}, block {block}, {} numbers, words {words:x?}", nodes.len());
+        |way: &str| format!("build over {way}: bits {bits}, block {block}, {} entries, words {words:x?}", nodes.len());
 
     let lent = |most| Lent { words, bits, nodes, block, most };
     let (wanted, left) = written(lent(MOST_WORDS), nodes);
@@ -22,18 +24,18 @@ pub fn check_build(words: &[u64], bits: u64, nodes: &[i64], block: u64, rng: &mu
     let mut ours = before.clone();
     let answer = vault::bytes::build(&row, bits, &mut ours, block).map_err(|refusal| refusal.number());
     assert_eq!((answer, numbers_of(&ours)), (wanted, left), "{}", told("bytes"));
-    assert_eq!(ours[8 * nodes.len()..], before[8 * nodes.len()..], "{}: odd bytes changed", told("bytes"));
+    assert_eq!(ours[8 * nodes.len()..], before[8 * nodes.len()..], "{}: the extra bytes changed", told("bytes"));
     tally.calls += 2;
 
     if lent(MOST_WORDS).admit().is_ok() {
         let row = Row::of_words(words, bits as usize);
         let theirs = original::node_numbers(&original::row(row.words, row.bits), block as usize);
-        assert_eq!(lent(MOST_WORDS).build(), theirs, "{}: the original's nodes", told("words"));
+        assert_eq!(lent(MOST_WORDS).build(), theirs, "{}: the entries differ from the original", told("words"));
         tally.original += 1;
     }
 }
 
-/// What a build answers, and what it leaves in the numbers.
+/// Returns the answer that a build has to give, and the content that its node buffer has to have afterwards.
 fn written(lent: Lent, nodes: &[i64]) -> (Result<(), u8>, Vec<i64>) {
     let mut left = nodes.to_vec();
     let answer = lent.admit();
@@ -44,7 +46,7 @@ fn written(lent: Lent, nodes: &[i64]) -> (Result<(), u8>, Vec<i64>) {
     (answer, left)
 }
 
-/// Reads a text into lent words and into lent bytes, both filled with anything.
+/// Compares the text readers over words and over bytes with `plain`. The row may start with any content.
 pub fn check_text(text: &[u8], words: &[u64], rng: &mut Rng, tally: &mut Tally) {
     let told = |way: &str| format!("text over {way}: {} words, text {:?}", words.len(), String::from_utf8_lossy(text));
 
@@ -59,11 +61,11 @@ pub fn check_text(text: &[u8], words: &[u64], rng: &mut Rng, tally: &mut Tally) 
     let answer = vault::bytes::read_text(text, &mut ours).map_err(|refusal| refusal.number());
     let left: Vec<u8> = left.iter().flat_map(|word| word.to_le_bytes()).collect();
     assert_eq!((answer, &ours[..left.len()]), (wanted, &left[..]), "{}", told("bytes"));
-    assert_eq!(ours[left.len()..], before[left.len()..], "{}: odd bytes changed", told("bytes"));
+    assert_eq!(ours[left.len()..], before[left.len()..], "{}: the extra bytes changed", told("bytes"));
     tally.calls += 2;
 }
 
-/// What the reader answers, and what it leaves in the words.
+/// Returns the answer that a text reader has to give, and the content that its words have to have afterwards.
 fn read(text: &[u8], words: &[u64], most: u64) -> (Result<u64, u8>, Vec<u64>) {
     let mut left = words.to_vec();
     let answer = plain::read_text(text, words.len(), most).map(|written| {

@@ -1,5 +1,7 @@
-//! Each known difference of the original by its smallest input: what the original answers, in a release build and in one with
-//! Rust's checks, and what is answered here. `docs/DIFFERENCES.md` lists them.
+//! Tests the smallest input of each known difference between the original and the vault. `docs/DIFFERENCES.md` lists them.
+//!
+//! Each test states the answer of the original without and with Rust's checks (debug assertions and overflow checks), and the
+//! answer of the vault. A release build tests the first, a development build the second.
 
 use std::panic::{catch_unwind, AssertUnwindSafe};
 
@@ -7,7 +9,7 @@ use differential::{original_over, Answer, Call, Row};
 use original::{BpTree, LevelTree};
 use vault::{Refusal, Tree};
 
-/// What the original does: it answers, or it panics.
+/// The behaviour of the original: an answer, or `None` if it panics.
 type Does = Option<Answer>;
 const PANICS: Does = None;
 const NOTHING: Does = Some(Answer::Value(-1));
@@ -16,6 +18,7 @@ fn answers(value: i64) -> Does {
     Some(Answer::Value(value))
 }
 
+/// Runs a call of the original and catches its panic.
 fn original_does(ask: impl FnOnce() -> Answer) -> Does {
     catch_unwind(AssertUnwindSafe(ask)).ok()
 }
@@ -24,7 +27,7 @@ fn row(text: &str) -> Row {
     Row::new(&text.bytes().map(|byte| byte == b'(').collect::<Vec<_>>())
 }
 
-/// The original, asked over a row: first what it does without checks, then what it does with them.
+/// Tests a call of the original on a row: `without` is its behaviour without Rust's checks, `with` is the one with them.
 fn original(text: &str, call: Call, without: Does, with: Does) {
     let row = row(text);
     let does = original_does(|| original_over(&row.words, row.bits, 8).ask(call).expect("the original has this call"));
@@ -32,7 +35,7 @@ fn original(text: &str, call: Call, without: Does, with: Does) {
 }
 
 fn tree(text: &str) -> Tree<'static> {
-    text.parse().expect("a text of parentheses")
+    text.parse().expect("the text has only parentheses")
 }
 
 #[test]
@@ -99,7 +102,7 @@ fn surplus_words() {
         Answer::from(found.map(|at| at as u64))
     });
     assert_eq!(does, if cfg!(debug_assertions) { PANICS } else { NOTHING });
-    let tree = Tree::build(&words, row.bits, 8).expect("surplus words do not matter");
+    let tree = Tree::build(&words, row.bits, 8).expect("surplus words are accepted");
     assert_eq!(tree.level_rightmost(0), Ok(Some(0)));
 }
 
@@ -107,19 +110,19 @@ fn surplus_words() {
 fn a_block_size_that_is_no_multiple_of_8() {
     let row = row(")(((((((()))))))))");
     let twelve = BpTree::<12>::from_bit_vector(original::row(row.words.clone(), row.bits));
-    assert_eq!(twelve.bwd_search(17, 0), None, "the original misses it");
+    assert_eq!(twelve.bwd_search(17, 0), None, "the original misses position 1");
     assert_eq!(Tree::build(&row.words, row.bits, 12), Err(Refusal::BlockSize));
     assert_eq!(Tree::build(&row.words, row.bits, 8).and_then(|tree| tree.bwd_search(17, 0)), Ok(Some(1)));
 }
 
-/// The original's nodes are its own; here they are lent.
+/// The original builds its own node buffer, so it never has a foreign one. The vault accepts one from the caller.
 #[test]
 fn foreign_nodes() {
     let words = row(")").words;
     let nodes = [(1 << 32) + 1, -1, -1, -1, -1, -1];
-    let tree = Tree::from_parts(&words, 1, &nodes, 8).expect("there is room");
+    let tree = Tree::from_parts(&words, 1, &nodes, 8).expect("the two slices are long enough");
     assert_eq!(tree.level_rightmost(0), Err(Refusal::NodesMisfit));
-    assert_eq!(tree.level_leftmost(1), Ok(None), "no node is examined");
+    assert_eq!(tree.level_leftmost(1), Ok(None), "no min-max node is examined");
 }
 
 #[test]

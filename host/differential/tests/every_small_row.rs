@@ -1,8 +1,10 @@
-//! Every row of up to 12 bits in blocks of 8: every call, at every position and a few past the end, with every r and level in
-//! reach and beyond.
+//! Compares every call on every row of up to 12 bits, with the block size 8.
+//!
+//! The calls have every position of the row and some past its end, and every `r` and level in reach and some beyond.
 
 use differential::{check_build, rows, Call, Case, Rng, Tally};
 
+/// Compares every call on every row whose bit count is in the range.
 fn every_row_of(bits: std::ops::RangeInclusive<usize>) -> Tally {
     let mut tally = Tally::default();
     let mut rng = Rng::new(8);

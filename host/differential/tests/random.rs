@@ -1,9 +1,12 @@
-//! Random trees and random rows of up to 5,000 bits in blocks of 8, 64 and 512 beside the original; damaged copies, foreign
-//! nodes, wrong counts and short buffers beside the second implementation.
+//! Compares random calls on random rows of up to 5,000 bits.
+//!
+//! With the block sizes 8, 64 and 512 and node buffers as built, the answers are compared with the original and with the second
+//! implementation. With wrong arguments (see `hostile`), the second implementation decides.
 
 use differential::known::Known;
 use differential::{rounds, Rng, Tally};
 
+/// Runs a number of rounds of a seed and returns the counts.
 fn tallied(seed: u64, rounds: u64, round: impl Fn(&mut Rng, &mut Tally)) -> Tally {
     let mut tally = Tally::default();
     (0..rounds).for_each(|number| round(&mut Rng::of_round(seed, number), &mut tally));
@@ -31,7 +34,7 @@ fn whatever_is_lent() {
     let tally = tallied(1, 20_000, |rng, tally| rounds::dishonest(rng, 5000, tally));
     assert!(tally.hostile > 1_000_000);
     for known in [Known::HugeLevel, Known::BadHandle, Known::ForeignNodes, Known::TooShort, Known::OddBlock] {
-        assert!(tally.of(known) > 1000, "{known:?} was hardly met");
+        assert!(tally.of(known) > 1000, "too few calls fall under {known:?}");
     }
 }
 

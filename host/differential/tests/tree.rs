@@ -1,10 +1,12 @@
-//! The methods of `vault::Tree`, each beside the second implementation: over trees that are built, and over trees that are put
-//! together from any nodes.
+//! Compares the methods of `vault::Tree` with the second implementation.
+//!
+//! The trees come from `Tree::build`, and from `Tree::from_parts` with any node buffer.
 
 use differential::plain::{self, Lent, MOST_WORDS};
 use differential::{hostile, rows, Answer, Call, Case, Rng};
 use vault::{Children, Refusal, Tree};
 
+/// Makes a call through the method of the tree.
 fn ask(tree: &Tree, call: Call) -> Answer {
     let at = |position: u64| position as usize;
     match call {
@@ -41,7 +43,7 @@ fn found(position: Result<Option<usize>, Refusal>) -> Answer {
     answer(position.map(|found| found.map(|at| at as u64)))
 }
 
-/// The answers of an iterator's steps, as far as there is room, up to and with the first nothing.
+/// Returns the encoded items of an iterator and the -1 that ends them, but at most `room` values.
 fn steps(children: Result<Children, Refusal>, room: usize) -> Answer {
     let number = |step: Result<usize, Refusal>| match step {
         Ok(child) => child as i64,
@@ -50,6 +52,7 @@ fn steps(children: Result<Children, Refusal>, room: usize) -> Answer {
     answer(children.map(|children| Answer::Steps(children.map(number).chain([-1]).take(room).collect())))
 }
 
+/// Compares 100 random calls on a tree.
 fn check(case: &Case, tree: &Tree, rng: &mut Rng) {
     let lent = Lent { words: &case.words, bits: case.bits, nodes: &case.nodes, block: case.block, most: MOST_WORDS };
     for _ in 0..100 {
@@ -64,7 +67,7 @@ fn trees_that_are_built() {
         let mut rng = Rng::of_round(3, number);
         let row = rows::any(&mut rng, 3000);
         let case = Case::built(&row, rng.pick(&[8, 64, 512, 24, 65_536]), &mut rng);
-        let tree = Tree::build(&case.words, row.bits, case.block as usize).expect("the row is right");
+        let tree = Tree::build(&case.words, row.bits, case.block as usize).expect("the arguments are valid");
         check(&case, &tree, &mut rng);
     }
 }
@@ -87,5 +90,5 @@ fn trees_of_any_parts() {
             }
         }
     }
-    assert!(made > 500 && refused > 500, "{made} made, {refused} refused");
+    assert!(made > 500 && refused > 500, "{made} trees created, {refused} refused");
 }

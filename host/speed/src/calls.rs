@@ -1,4 +1,4 @@
-//! What is timed: each build and each call, of the original and of the vault.
+//! The builds and calls that are measured, of the original and of the vault.
 
 use std::ops::Range;
 
@@ -9,14 +9,15 @@ use crate::clock::time;
 use crate::questions::{Asked, COUNT};
 use crate::trees::{Sample, BLOCK};
 
-/// A way to build, timed.
+/// A build. Each function returns its time in nanoseconds.
 pub struct Build {
     pub name: &'static str,
     pub original: fn(&Sample) -> u64,
     pub ours: fn(&Sample) -> u64,
 }
 
-/// The original's tree has rank and select beside its nodes, which no call here needs: so its nodes alone are timed too.
+/// The two builds. The tree of the original also has rank and select, which no measured call needs. The second build therefore
+/// measures only its min-max tree.
 pub const BUILDS: [Build; 2] = [
     Build {
         name: "build",
@@ -40,16 +41,16 @@ fn build_ours(sample: &Sample) -> u64 {
     time(|| Tree::build(&sample.row.words, sample.row.bits, BLOCK))
 }
 
-/// A call: the sum of its answers to a part of the questions, by the original and by the vault.
+/// A call. The functions `original` and `ours` return the sum of the answers to a part of the questions.
 pub struct Call {
     pub name: &'static str,
     pub original: fn(&Asked, Range<usize>) -> i64,
     pub ours: fn(&Asked, Range<usize>) -> i64,
-    /// Holds all answers against each other; how many there are.
+    /// Panics unless all answers of the two implementations are equal. Returns the number of answers.
     pub compare: fn(&Asked) -> u64,
 }
 
-/// The calls: name, what the original answers to question i, and what the vault answers.
+/// Generates the calls. Each line has the name, the answer of the original to question `i`, and the answer of the vault.
 macro_rules! calls {
     ($($name:literal: |$asked:ident, $i:ident| $original:expr, $ours:expr;)*) => {
         pub const CALLS: &[Call] = &[$({
@@ -91,7 +92,7 @@ calls! {
     "bwd_search, far": |x, i| x.theirs.bwd_search(x.node[i], x.far[i]), x.ours.bwd_search(x.node[i], x.far[i]);
 }
 
-/// An answer as numbers: for a sum that has to be computed, and to compare.
+/// An answer as numbers. The sum keeps the compiler from removing a call, and the list is for the comparison.
 trait Answer: Sized {
     fn sum(self) -> i64;
 
@@ -114,7 +115,7 @@ impl Answer for Option<bool> {
     }
 }
 
-/// A refusal is no answer to these questions.
+/// An answer of the vault. These questions are never refused.
 impl<T> Answer for Result<Option<T>, Refusal>
 where
     Option<T>: Answer,
@@ -125,7 +126,7 @@ where
     }
 }
 
-/// The children of a node, at most so many.
+/// The children of an outline node, at most [`LISTED`] of them.
 struct Listed<I>(I);
 
 const LISTED: usize = 64;

@@ -1,4 +1,4 @@
-//! The time that this thread has run.
+//! The CPU time of the current thread.
 
 use std::hint::black_box;
 
@@ -8,21 +8,22 @@ struct Timespec {
     nanoseconds: i64,
 }
 
-/// POSIX's clock of the calling thread, as Linux numbers it.
+/// The number that Linux has for the POSIX clock of the calling thread.
 const CLOCK_THREAD_CPUTIME_ID: i32 = 3;
 
+/// Returns the CPU time of the thread in nanoseconds.
 fn now() -> u64 {
     extern "C" {
         fn clock_gettime(clock: i32, time: *mut Timespec) -> i32;
     }
     let mut time = Timespec { seconds: 0, nanoseconds: 0 };
-    // SAFETY: the pointer is to a value of the layout that Linux on x86-64 writes, borrowed for the call.
+    // SAFETY: the pointer is valid during the call, and the value has the layout that Linux on x86-64 writes.
     let failed = unsafe { clock_gettime(CLOCK_THREAD_CPUTIME_ID, &mut time) };
-    assert_eq!(failed, 0, "the thread's clock cannot be read");
+    assert_eq!(failed, 0, "cannot read the clock of the thread");
     time.seconds as u64 * 1_000_000_000 + time.nanoseconds as u64
 }
 
-/// The nanoseconds that some work takes. What it makes is dropped after the clock is read.
+/// Returns the nanoseconds that `work` takes. Dropping its result is not part of the time.
 pub fn time<T>(work: impl FnOnce() -> T) -> u64 {
     let start = now();
     let made = black_box(work());

@@ -1,7 +1,7 @@
-//! The vault's calls and the original's, timed beside each other in one process, on the same rows and questions.
+//! Measures the calls of the vault and of the original in one process, on the same rows and questions.
 //!
-//! Times are the thread's own, and the two take turns on parts of the questions: on a machine with other work the ratios stay
-//! within a few percent where the times do not. Both have to give the same answers.
+//! Times are CPU times of the thread, and the two implementations take turns on parts of the questions. On a busy machine the
+//! ratios therefore vary by only a few percent, while the times vary more. Both have to give the same answers.
 
 mod calls;
 mod clock;
@@ -17,10 +17,10 @@ use crate::measure::{Measured, Turns};
 use crate::report::Report;
 use crate::trees::Sample;
 
-/// The runs of a call, of which the median is taken. An odd number.
+/// The number of runs per call. The result is their median, so the number is odd.
 const RUNS: usize = 11;
 
-/// What to time: everything, unless told otherwise.
+/// The command line options. Without options everything is measured.
 #[derive(Default)]
 struct Told {
     runs: Option<usize>,
@@ -29,26 +29,28 @@ struct Told {
 }
 
 impl Told {
+    /// Tests whether everything is measured.
     fn is_whole(&self) -> bool {
         self.runs.is_none() && self.tree.is_none() && self.call.is_none()
     }
 }
 
+/// Parses the command line.
 fn told(mut words: impl Iterator<Item = String>) -> Result<Told, String> {
     let mut told = Told::default();
     while let Some(word) = words.next() {
-        let value = words.next().ok_or_else(|| format!("{word} lacks its value"))?;
+        let value = words.next().ok_or_else(|| format!("{word} needs a value"))?;
         match word.as_str() {
-            "--runs" => told.runs = Some(value.parse().map_err(|_| format!("{value} is no number"))?),
+            "--runs" => told.runs = Some(value.parse().map_err(|_| format!("{value} is not a number"))?),
             "--tree" => told.tree = Some(value),
             "--call" => told.call = Some(value),
-            _ => return Err(format!("{word} is unknown")),
+            _ => return Err(format!("unknown option {word}")),
         }
     }
     Ok(told)
 }
 
-/// Times what it is told to and prints a table; writes it to `docs/SPEED.md` if that is everything.
+/// Measures the selected trees and calls and prints a table. If everything is selected, it also writes `docs/SPEED.md`.
 pub fn run(words: impl Iterator<Item = String>) -> Result<(), String> {
     let told = told(words)?;
     let wanted = |name: &Option<String>, this: &str| name.as_deref().is_none_or(|name| name == this);
@@ -73,12 +75,12 @@ pub fn run(words: impl Iterator<Item = String>) -> Result<(), String> {
     print!("{report}");
     if told.is_whole() {
         let file = Path::new(env!("CARGO_MANIFEST_DIR")).join("../../docs/SPEED.md");
-        std::fs::write(&file, report.page()).map_err(|error| format!("docs/SPEED.md is not written: {error}"))?;
+        std::fs::write(&file, report.page()).map_err(|error| format!("cannot write docs/SPEED.md: {error}"))?;
     }
     Ok(())
 }
 
-/// A build, so many nanoseconds a bit.
+/// Measures a build, in nanoseconds per bit.
 fn time_build(sample: &Sample, build: &calls::Build, runs: usize) -> Measured {
     let mut turns = Turns::default();
     for _ in 0..runs.min(5) {
@@ -90,8 +92,10 @@ fn time_build(sample: &Sample, build: &calls::Build, runs: usize) -> Measured {
     turns.measured(sample.row.bits as u64)
 }
 
-/// A call, so many nanoseconds an answer. The questions fall into parts; while the original is asked one, ours is asked another,
-/// so that neither finds what the other has just brought into the cache.
+/// Measures a call, in nanoseconds per answer.
+///
+/// The questions are divided into parts. In each turn the two implementations answer different parts, so that neither finds the
+/// data of its questions in the cache because of the other.
 fn time_call(asked: &questions::Asked, call: &calls::Call, runs: usize) -> Measured {
     const PARTS: usize = 32;
     let answers = (call.compare)(asked);

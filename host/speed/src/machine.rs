@@ -1,8 +1,8 @@
-//! What the report says of the machine and the day.
+//! The description of the machine and the date for the report.
 
 use std::time::{SystemTime, UNIX_EPOCH};
 
-/// The processor's kind and how many there are.
+/// Returns the model of the processor and the number of cores.
 pub fn kind() -> String {
     let info = std::fs::read_to_string("/proc/cpuinfo").unwrap_or_default();
     let model = info.lines().find_map(|line| line.strip_prefix("model name")).and_then(|rest| rest.split_once(':'));
@@ -11,14 +11,15 @@ pub fn kind() -> String {
     format!("{model}, {cores} cores")
 }
 
-/// Today, as year, month and day.
+/// Returns the current date as year, month and day.
 pub fn today() -> String {
     let seconds = SystemTime::now().duration_since(UNIX_EPOCH).map_or(0, |since| since.as_secs());
     let (year, month, day) = date(seconds / 86_400);
     format!("{year}-{month:02}-{day:02}")
 }
 
-/// The date so many days after 1970-01-01. Years are counted from March, so that a leap day is a year's last.
+/// Returns the date that is `days` days after 1970-01-01. The years of the computation begin in March, so that a leap day is the
+/// last day of its year.
 fn date(days: u64) -> (u64, u64, u64) {
     let days = days + 719_468; // since 0000-03-01
     let (era, day_of_era) = (days / 146_097, days % 146_097);

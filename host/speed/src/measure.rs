@@ -1,6 +1,6 @@
-//! Times of two that take turns, and what is made of them.
+//! Times of the two implementations, and their medians and ratios.
 
-/// Nanoseconds a unit, by the medians of the runs, and the median of their ratios.
+/// The median times in nanoseconds per unit, and the median of the ratios of the runs.
 #[derive(Clone, Copy, Debug, PartialEq)]
 pub struct Measured {
     pub original: f64,
@@ -8,7 +8,7 @@ pub struct Measured {
     pub ratio: f64,
 }
 
-/// The two times of one run.
+/// The times of the two implementations in one run.
 #[derive(Clone, Copy, Debug, Default)]
 pub struct Run {
     original: u64,
@@ -25,7 +25,7 @@ impl Run {
     }
 }
 
-/// The runs so far.
+/// All runs so far.
 #[derive(Default)]
 pub struct Turns(Vec<Run>);
 
@@ -36,7 +36,8 @@ impl Turns {
         self.0.push(run);
     }
 
-    /// Over so many units a run. A ratio is taken of each run, since what slows a run down slows both.
+    /// Computes the result for runs of `units` units each. The ratio is computed per run, because a disturbance of the machine
+    /// slows both implementations in the same run.
     pub fn measured(&self, units: u64) -> Measured {
         let median = |of: fn(&Run) -> f64| {
             let mut values: Vec<f64> = self.0.iter().map(of).collect();

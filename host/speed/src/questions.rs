@@ -1,35 +1,36 @@
-//! The questions that both are asked.
+//! The questions that both implementations answer.
 
 use original::{BpTree, Tree as _};
 use vault::Tree;
 
 use crate::trees::{Sample, BLOCK};
 
-/// How many questions a call is asked.
+/// The number of questions per call.
 pub const COUNT: usize = 1 << 17;
 
-/// Both trees, and for each question its arguments.
+/// Both trees, and the arguments of each question.
 pub struct Asked<'a> {
     pub theirs: &'a BpTree<BLOCK>,
     pub ours: &'a Tree<'a>,
     /// Handles other than the root.
     pub node: Vec<usize>,
-    /// More of them.
+    /// Other handles, also without the root.
     pub other: Vec<usize>,
-    /// From 1 to the node's depth.
+    /// Levels from 1 to the depth of `node`.
     pub level: Vec<u64>,
-    /// From -64 to 64.
+    /// Values of `r` from -64 to 64.
     pub near: Vec<i64>,
-    /// Down to one past the root's close: from -1 less the node's depth to -1.
+    /// Values of `r` from `-1 - d` to -1, where `d` is the depth of `node`. A forward search for `-1 - d` finds the close bit of
+    /// the root.
     pub far: Vec<i64>,
-    /// Where the node closes.
+    /// The position of the close bit of `node`.
     pub close: Vec<usize>,
-    /// The node's parent.
+    /// The parent of `node`.
     pub parent: Vec<usize>,
 }
 
 impl<'a> Asked<'a> {
-    /// Draws the questions. What they ask of a node is the original's answer.
+    /// Creates random questions. Arguments that depend on `node` come from the original.
     pub fn draw(sample: &Sample, theirs: &'a BpTree<BLOCK>, ours: &'a Tree<'a>) -> Self {
         let (row, mut rng) = (&sample.row, sample.rng.clone());
         let mut asked = Asked {
@@ -57,8 +58,8 @@ impl<'a> Asked<'a> {
             asked.level.push(1 + rng.below(depth));
             asked.near.push(rng.within(64));
             asked.far.push(-1 - rng.below(depth + 1) as i64);
-            asked.close.push(theirs.close(node).expect("every node of a tree closes"));
-            asked.parent.push(theirs.parent(node).expect("every node but the root has a parent"));
+            asked.close.push(theirs.close(node).expect("every outline node of a tree has a close bit"));
+            asked.parent.push(theirs.parent(node).expect("every outline node except the root has a parent"));
         }
         asked
     }

@@ -1,4 +1,4 @@
-//! The table, as it is printed and as it is written.
+//! The report: as a table on the terminal and as the page `docs/SPEED.md`.
 
 use std::fmt;
 use std::io::{stderr, IsTerminal, Write};
@@ -6,7 +6,8 @@ use std::io::{stderr, IsTerminal, Write};
 use crate::machine;
 use crate::measure::Measured;
 
-/// What is being done, on one line that the next replaces; an empty one clears it.
+/// Shows the current step on standard error. On a terminal each step replaces the line of the previous one, and an empty text
+/// clears it.
 pub fn progress(what: &str) {
     if stderr().is_terminal() {
         eprint!("\r{what:<60}{}", if what.is_empty() { "\r" } else { "" });
@@ -16,7 +17,7 @@ pub fn progress(what: &str) {
     stderr().flush().ok();
 }
 
-/// The measured calls of the trees.
+/// The results of all trees and calls.
 pub struct Report {
     runs: usize,
     lines: Vec<(&'static str, &'static str, Measured)>,
@@ -31,6 +32,7 @@ impl Report {
         self.lines.push((tree, call, measured));
     }
 
+    /// Returns the different names of the lines, in order.
     fn names(&self, name: impl Fn(&(&'static str, &'static str, Measured)) -> &'static str) -> Vec<&'static str> {
         let mut names = Vec::new();
         for line in &self.lines {
@@ -41,7 +43,7 @@ impl Report {
         names
     }
 
-    /// A table with a line for each call and a column for each tree.
+    /// Returns a table with a line for each call and a column for each tree.
     fn table(&self, cell: impl Fn(Measured) -> String) -> String {
         let (trees, calls) = (self.names(|line| line.0), self.names(|line| line.1));
         let mut table = format!("| | {} |\n|---|{}\n", trees.join(" | "), "---:|".repeat(trees.len()));
@@ -53,7 +55,7 @@ impl Report {
         table
     }
 
-    /// The page `docs/SPEED.md`.
+    /// Returns the page `docs/SPEED.md`. The file `page.md` is its template.
     pub fn page(&self) -> String {
         let times = |measured: Measured| {
             let digits = if measured.original < 10.0 { 2 } else { 0 };

@@ -1,13 +1,13 @@
-//! The trees that are asked.
+//! The trees that are measured.
 
 use differential::{rows, Rng, Row};
 use original::BpTree;
 use vault::Tree;
 
-/// The block size: the original's default.
+/// The block size: the default of the original.
 pub const BLOCK: usize = 512;
 
-/// A kind and a size of tree.
+/// A kind of tree and its size.
 pub struct Kind {
     pub name: &'static str,
     pub log_bits: u32,
@@ -15,7 +15,7 @@ pub struct Kind {
     draw: fn(&mut Rng, usize) -> Row,
 }
 
-/// Uniform random trees of four sizes; a path with leaves beside it; a shallow and wide one.
+/// Uniform random trees of four sizes, a path with leaves beside it, and a shallow and wide tree.
 pub const ALL: [Kind; 6] = [
     Kind { name: "uniform 2^16", log_bits: 16, seed: 16_000, draw: rows::uniform_tree },
     Kind { name: "uniform 2^20", log_bits: 20, seed: 20_000, draw: rows::uniform_tree },
@@ -25,7 +25,7 @@ pub const ALL: [Kind; 6] = [
     Kind { name: "bushy 2^24", log_bits: 24, seed: 24_002, draw: rows::bushy },
 ];
 
-/// A tree that was drawn, and the generator that goes on to draw its questions.
+/// A random tree, and the random number generator that then creates its questions.
 pub struct Sample {
     pub row: Row,
     pub rng: Rng,
@@ -38,11 +38,11 @@ impl Sample {
         Sample { row, rng }
     }
 
-    /// The original's tree and ours. Their nodes have to be the same.
+    /// Builds the tree of the original and ours. Panics unless their min-max trees are equal.
     pub fn build(&self) -> (BpTree<BLOCK>, Tree<'_>) {
         let theirs = original::row(self.row.words.clone(), self.row.bits);
         let ours = Tree::build(&self.row.words, self.row.bits, BLOCK).expect("the row is a tree");
-        assert_eq!(original::node_numbers(&theirs, BLOCK), ours.nodes(), "the nodes differ");
+        assert_eq!(original::node_numbers(&theirs, BLOCK), ours.nodes(), "the min-max trees differ");
         (BpTree::from_bit_vector(theirs), ours)
     }
 }

@@ -1,15 +1,20 @@
-//! What the one `i64` stands for that each C function answers: a position, a count, 1 or 0 for yes and no, 0 for a build done;
-//! -1 for nothing; -1 less the number for a refusal.
+//! Decodes the `i64` that each C function returns.
+//!
+//! | value | meaning |
+//! |---|---|
+//! | 0 or more | a position, a count, 1 for yes, 0 for no, or 0 for a successful build |
+//! | -1 | nothing |
+//! | -1 - k | refusal k |
 
 use crate::Refusal;
 
-/// The refusal of an answer below -1.
+/// Returns the refusal that an answer below -1 encodes. Panics if there is none.
 fn refusal(answer: i64) -> Refusal {
     let of_number = |refusal: &&Refusal| -1 - i64::from(refusal.number()) == answer;
-    *Refusal::ALL.iter().find(of_number).unwrap_or_else(|| panic!("the libraries never answer {answer}"))
+    *Refusal::ALL.iter().find(of_number).unwrap_or_else(|| panic!("the C functions never answer {answer}"))
 }
 
-/// A position, or nothing.
+/// Decodes a position or nothing.
 #[inline]
 pub(crate) fn position(answer: i64) -> Result<Option<u64>, Refusal> {
     match answer {
@@ -19,25 +24,25 @@ pub(crate) fn position(answer: i64) -> Result<Option<u64>, Refusal> {
     }
 }
 
-/// Yes, no, or nothing.
+/// Decodes yes, no or nothing.
 #[inline]
 pub(crate) fn told(answer: i64) -> Result<Option<bool>, Refusal> {
     Ok(position(answer)?.map(|yes| yes == 1))
 }
 
-/// A count, of a call that never answers nothing.
+/// Decodes the count of a call that never returns -1.
 #[inline]
 pub(crate) fn count(answer: i64) -> Result<u64, Refusal> {
-    Ok(position(answer)?.expect("a count is no nothing"))
+    Ok(position(answer)?.expect("this call never returns -1"))
 }
 
-/// Yes or no, of a call that never answers nothing.
+/// Decodes yes or no of a call that never returns -1.
 #[inline]
 pub(crate) fn decided(answer: i64) -> Result<bool, Refusal> {
     Ok(count(answer)? == 1)
 }
 
-/// A build done.
+/// Decodes the success of a build.
 #[inline]
 pub(crate) fn done(answer: i64) -> Result<(), Refusal> {
     count(answer).map(|_| ())

@@ -1,7 +1,11 @@
-//! The calls over byte slices, for rows of up to 4,096 bits: the way in for what arrives as bytes.
+//! The calls over byte slices, for rows of up to 4,096 bits. They serve callers that receive rows and node buffers as bytes.
 //!
-//! A row word or a node number is eight bytes, least significant first, negative ones in two's complement; up to seven bytes
-//! left over do not count. So the row's first bit is the least significant of its first byte.
+//! A row word and an entry of the node buffer are eight bytes each, with the least significant byte first. Negative entries
+//! are in two's complement. Bytes after the last complete group of eight do not count.
+//! The first bit of the row is therefore the least significant bit of the first byte.
+//!
+//! The functions and their refusals are those of [`words`](crate::words), except that
+//! [`TooManyBits`](crate::Refusal::TooManyBits) starts above 4,096 bits.
 //!
 //! ```
 //! use vault::{bytes, Refusal};

@@ -1,16 +1,22 @@
-//! The C functions of the static libraries `capi` and `probe`, each behind a safe function over slices that reads its answer.
-//! `calls!` makes them once for both ways to lend a row and its nodes: [`words`] and [`bytes`]. All unsafe code of this crate
-//! stands here.
+//! Safe functions over the C functions of the static libraries `capi` and `probe`.
 //!
-//! The functions are those of `include/faamosela.h`: every slice crosses as a pointer and a length, and an empty one with any
-//! pointer that is not null. They are proved for every content of the slices and every value of the numbers: they read within
-//! the slices that they are lent, write within those that they are lent as mutable, and end. What is left to the caller are
-//! slices that are valid for their lengths, aligned, and apart from each other where one is written. References are that.
+//! The macro `calls!` generates all of them twice: over words for the module [`words`], over bytes for the module [`bytes`].
+//! All unsafe code of this crate is in this file.
+//!
+//! `include/faamosela.h` declares the C functions. Every slice crosses as a pointer and a length, and an empty slice has a
+//! non-null pointer. For any content of the slices and any value of the numbers, each C function is proved to
+//!
+//! - terminate,
+//! - read only within the slices that it receives,
+//! - write only within the slices that it receives as mutable.
+//!
+//! The caller has to pass slices that are valid for their lengths and aligned. A slice that is written must not overlap
+//! another one. Rust references guarantee all of this.
 //!
 //! [`words`]: crate::words
 //! [`bytes`]: crate::bytes
 
-/// All calls, over slices of the two types, by the C functions whose names begin with the prefix.
+/// Generates all calls over slices of the two types. The names of the C functions begin with the prefix.
 macro_rules! calls {
     ($prefix:literal, $Word:ty, $Number:ty) => {
         use crate::answer::{count, decided, done, position, told};
@@ -18,72 +24,86 @@ macro_rules! calls {
         use crate::Refusal;
 
         building! { $prefix, $Word, $Number;
-            /// Writes the nodes of the row. What stands past them stays; a refusal leaves all.
+            /// Writes the node buffer of the row.
+            ///
+            /// Elements of `nodes` after the entries that the row needs are unchanged. On refusal the whole slice is unchanged.
             build
         }
 
         reading! { $prefix, $Word;
-            /// Fills the row from parenthesis text: how many bits it has. Words past those that it needs stay.
+            /// Converts a text of parentheses to a row and returns the number of bits: `(` becomes an open bit, `)` a close bit.
+            ///
+            /// Elements of `row` after the words that the bits need are unchanged. On refusal the whole slice is unchanged.
             read_text
         }
 
         over_row! { $prefix, $Word;
-            /// Whether the row is one tree.
+            /// Tests whether the row is one tree: its first bit is an open bit, and the matching close bit is its last bit.
             one_tree() -> decided: bool;
-            /// 0, or nothing where there are no bits.
+            /// Returns the handle of the root, which is 0, or `None` if the row has no bits. Bit 0 is not tested.
             root() -> position: Option<u64>;
-            /// The first child of a node.
+            /// Returns the first child of the outline node `node`: `node + 1` if that is an open bit of the row.
             first_child(node: u64) -> position: Option<u64>;
-            /// Whether a node has no children: whether the bit after it exists and closes.
+            /// Tests whether the outline node `node` has no child: `node + 1` is the position of a close bit of the row.
             is_leaf(node: u64) -> decided: bool;
         }
 
         over_nodes! { $prefix, $Word, $Number;
-            /// Whether the nodes begin with those that a build writes.
+            /// Tests whether the node buffer begins with exactly the entries that `build` writes for this row.
             as_built() -> decided: bool;
-            /// The least j past `at` after which the excess is `r` more than after `at`.
+            /// Returns the least position `j > at` with `E(j + 1) = E(at + 1) + r`.
             fwd_search(at: u64, r: i64) -> position: Option<u64>;
-            /// The greatest j before `at` before which the excess is `r` more than before `at`.
+            /// Returns the greatest position `j < at` with `E(j) = E(at) + r`.
             bwd_search(at: u64, r: i64) -> position: Option<u64>;
-            /// Where what opens at `at` closes.
+            /// Returns the position of the close bit that matches the open bit at `at`: `fwd_search(at, -1)`.
             close(at: u64) -> position: Option<u64>;
-            /// Where what closes at `at` opens.
+            /// Returns the position of the open bit that matches the close bit at `at`: `bwd_search(at, -1)`.
             open(at: u64) -> position: Option<u64>;
-            /// Where what encloses `at` opens.
+            /// Returns the innermost outline node around the pair of parentheses that has a bit at `at`.
+            ///
+            /// It is `bwd_search(at, -1)` at an open bit and `bwd_search(at, -2)` at a close bit.
             enclose(at: u64) -> position: Option<u64>;
-            /// The node that encloses a node.
+            /// Returns the outline node directly around `node`.
             parent(node: u64) -> position: Option<u64>;
-            /// The last child of a node.
+            /// Returns the last child of the outline node `node`.
             last_child(node: u64) -> position: Option<u64>;
-            /// The next child of a node's parent.
+            /// Returns the next child of the same parent.
             next_sibling(node: u64) -> position: Option<u64>;
-            /// The child of a node's parent before it.
+            /// Returns the previous child of the same parent.
             previous_sibling(node: u64) -> position: Option<u64>;
-            /// Whether `ancestor` encloses `descendant` or is it; nothing where `ancestor` never closes.
+            /// Tests whether the outline node `ancestor` contains `descendant` or is the same one.
+            ///
+            /// Returns `None` if `ancestor` has no matching close bit.
             is_ancestor(ancestor: u64, descendant: u64) -> told: Option<bool>;
-            /// The ancestor of a node so many levels up.
+            /// Returns the ancestor that is `level` levels above `node`, and `node` itself if `level` is 0.
             level_ancestor(node: u64, level: u64) -> position: Option<u64>;
-            /// The next node of a node's level.
+            /// Returns the next outline node on the level of `node`.
             level_next(node: u64) -> position: Option<u64>;
-            /// The node before a node on its level.
+            /// Returns the previous outline node on the level of `node`.
             level_prev(node: u64) -> position: Option<u64>;
-            /// The first node of a level.
+            /// Returns the first outline node on a level. For level 0 it returns 0 on every row that has bits.
             level_leftmost(level: u64) -> position: Option<u64>;
-            /// The last node of a level.
+            /// Returns the last outline node on a level, but `None` for level 0 if the root has no child.
             level_rightmost(level: u64) -> position: Option<u64>;
         }
 
         listing! { $prefix, $Word, $Number;
-            /// Writes the answers of a listing of a node's children, from the first to the last, as the C functions answer: up
-            /// to and with the first -1, or as many as there is room for. How many were written.
+            /// Writes the handles of the children of `node` to `out`, from the first to the last, then -1.
+            ///
+            /// Returns the number of values written, and stops early if `out` is full. If the search for the next child
+            /// refuses with number k, the value `-1 - k` is written next, and then -1.
             children;
-            /// The same, from the last child to the first.
+            /// Writes the handles of the children of `node` to `out`, from the last to the first, then -1.
+            ///
+            /// In all other respects it works like [`children`].
             rev_children;
         }
     };
 }
 
-/// Calls that are lent a row: `name(arguments) -> reading: Answer`.
+/// Generates calls that take a row and no node buffer.
+///
+/// A call is written `name(arguments) -> decode: Answer`, where `decode` is a function of [`answer`](crate::answer).
 macro_rules! over_row {
     ($prefix:literal, $Word:ty;
         $($(#[$doc:meta])* $name:ident($($arg:ident: $Arg:ty),*) -> $read:ident: $Answer:ty;)*) => {$(
@@ -95,13 +115,13 @@ macro_rules! over_row {
                 #[link_name = concat!($prefix, stringify!($name))]
                 fn call(row: *const $Word, row_len: usize, bits: u64, $($arg: $Arg),*) -> i64;
             }
-            // SAFETY: the slice is borrowed for the call, which only reads it.
+            // SAFETY: the slice is borrowed during the call. The C function only reads it.
             $read(unsafe { call(row.as_ptr(), row.len(), bits, $($arg),*) })
         }
     )*};
 }
 
-/// Calls that are lent a row and its nodes.
+/// Generates calls that take a row and its node buffer, written as in [`over_row`].
 macro_rules! over_nodes {
     ($prefix:literal, $Word:ty, $Number:ty;
         $($(#[$doc:meta])* $name:ident($($arg:ident: $Arg:ty),*) -> $read:ident: $Answer:ty;)*) => {$(
@@ -127,13 +147,13 @@ macro_rules! over_nodes {
                     $($arg: $Arg),*
                 ) -> i64;
             }
-            // SAFETY: both slices are borrowed for the call, which only reads them.
+            // SAFETY: both slices are borrowed during the call. The C function only reads them.
             $read(unsafe { call(row.as_ptr(), row.len(), bits, nodes.as_ptr(), nodes.len(), block, $($arg),*) })
         }
     )*};
 }
 
-/// The call that writes nodes.
+/// Generates the call that writes a node buffer.
 macro_rules! building {
     ($prefix:literal, $Word:ty, $Number:ty; $(#[$doc:meta])* $name:ident) => {
         $(#[$doc])*
@@ -151,14 +171,14 @@ macro_rules! building {
                     block: u64,
                 ) -> i64;
             }
-            // SAFETY: the row is borrowed for the call, which only reads it; the nodes are borrowed as mutable, so nothing
-            // else reaches them.
+            // SAFETY: the row is borrowed during the call, and the C function only reads it. The node buffer is borrowed as
+            // mutable, so no other slice overlaps it.
             done(unsafe { call(row.as_ptr(), row.len(), bits, nodes.as_mut_ptr(), nodes.len(), block) })
         }
     };
 }
 
-/// The call that reads a text and writes a row.
+/// Generates the call that reads a text and writes a row.
 macro_rules! reading {
     ($prefix:literal, $Word:ty; $(#[$doc:meta])* $name:ident) => {
         $(#[$doc])*
@@ -169,14 +189,14 @@ macro_rules! reading {
                 #[link_name = concat!($prefix, stringify!($name))]
                 fn call(text: *const u8, text_len: usize, row: *mut $Word, row_len: usize) -> i64;
             }
-            // SAFETY: the text is borrowed for the call, which only reads it; the row is borrowed as mutable, so nothing else
-            // reaches it.
+            // SAFETY: the text is borrowed during the call, and the C function only reads it. The row is borrowed as mutable,
+            // so no other slice overlaps it.
             count(unsafe { call(text.as_ptr(), text.len(), row.as_mut_ptr(), row.len()) })
         }
     };
 }
 
-/// Calls that write the answers of a listing.
+/// Generates the calls that write the children of an outline node.
 macro_rules! listing {
     ($prefix:literal, $Word:ty, $Number:ty; $($(#[$doc:meta])* $name:ident;)*) => {$(
         $(#[$doc])*
@@ -205,8 +225,8 @@ macro_rules! listing {
                 ) -> i64;
             }
             let (r, n) = (row.len(), nodes.len());
-            // SAFETY: row and nodes are borrowed for the call, which only reads them; out is borrowed as mutable, so nothing
-            // else reaches it.
+            // SAFETY: `row` and `nodes` are borrowed during the call, and the C function only reads them. `out` is borrowed as
+            // mutable, so no other slice overlaps it.
             count(unsafe { call(row.as_ptr(), r, bits, nodes.as_ptr(), n, block, node, out.as_mut_ptr(), out.len()) })
         }
     )*};

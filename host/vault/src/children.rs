@@ -2,28 +2,33 @@ use std::iter::FusedIterator;
 
 use crate::{Refusal, Tree};
 
-/// The children of a node, one at a time.
+/// An iterator over the handles of the children of an outline node.
 ///
-/// Over nodes as built every item is `Ok`. Over others a refusal may be met in seeking the next child: it is the last item.
+/// With a node buffer as built every item is `Ok`. With any other node buffer the search for the next child can refuse. The
+/// refusal is then the last item.
 #[derive(Clone, Debug)]
 pub struct Children<'t, 'a> {
     tree: &'t Tree<'a>,
+    /// Whether the order is from the first child to the last.
     rising: bool,
-    /// What the next step answers.
+    /// The item that the next step returns.
     held: Result<Option<usize>, Refusal>,
 }
 
 impl<'t, 'a> Children<'t, 'a> {
+    /// Lists the children of `node` from the first to the last.
     pub(crate) fn rising(tree: &'t Tree<'a>, node: usize) -> Result<Self, Refusal> {
         let first = tree.first_child(node)?;
         Ok(Children { tree, rising: true, held: Ok(first) })
     }
 
+    /// Lists the children of `node` from the last to the first.
     pub(crate) fn falling(tree: &'t Tree<'a>, node: usize) -> Result<Self, Refusal> {
         let last = tree.last_child(node)?;
         Ok(Children { tree, rising: false, held: Ok(last) })
     }
 
+    /// Returns the child that follows `child` in the order of this listing.
     #[inline]
     fn after(&self, child: usize) -> Result<Option<usize>, Refusal> {
         if self.rising {
@@ -54,8 +59,8 @@ impl FusedIterator for Children<'_, '_> {}
 mod tests {
     use super::*;
 
-    /// A node's total that is not the row's leads back to a position that does not open. The listing answers it, is refused
-    /// there, and has ended.
+    /// One wrong total in the node buffer leads the backward search to a close bit. The listing returns that position, then
+    /// `NotAHandle`, and then ends.
     #[test]
     fn a_refusal_met_on_the_way_is_the_last_item() {
         let built: Tree = "((((())))((()()())))".parse().unwrap();

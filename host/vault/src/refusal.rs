@@ -1,7 +1,7 @@
 use std::error::Error;
 use std::fmt;
 
-/// Why a call refuses. The numbers are the scope document's.
+/// The reason why a call refuses to answer. The numbers are those of SCOPE, Refusals (`docs/SCOPE.md`).
 ///
 /// ```
 /// use vault::{Refusal, Tree};
@@ -14,21 +14,21 @@ use std::fmt;
 #[derive(Clone, Copy, Debug, PartialEq, Eq, PartialOrd, Ord, Hash)]
 #[repr(u8)]
 pub enum Refusal {
-    /// The block size is 0, above 65,536 or no multiple of 8.
+    /// The block size is 0, above 65,536 or not a multiple of 8.
     BlockSize = 1,
-    /// There are more than 2^32 bits, or over byte slices more than 4,096.
+    /// There are more than 2^32 bits, or more than 4,096 in a call over byte slices.
     TooManyBits = 2,
-    /// There are fewer words than the bits need.
+    /// The row has fewer words than the bit count needs.
     TooFewWords = 3,
-    /// There are fewer node numbers than the bits need.
+    /// The node buffer has fewer entries than the bit count and the block size need.
     TooFewNodes = 4,
-    /// A handle lies past the row or does not open.
+    /// A handle argument is past the end of the row, or its bit is a close bit.
     NotAHandle = 5,
-    /// A text holds a byte other than `(` or `)`.
+    /// The text contains a byte that is neither `(` nor `)`.
     NotAParenthesis = 6,
-    /// The row is not one tree.
+    /// The row is not one tree. Only the program `levels` refuses for this reason, no call of this crate does.
     NotOneTree = 7,
-    /// The nodes do not fit the row.
+    /// The node buffer does not fit the row: a search met an entry out of range, or the entries led it to a dead end.
     NodesMisfit = 8,
 }
 
@@ -45,7 +45,7 @@ impl Refusal {
         Refusal::NodesMisfit,
     ];
 
-    /// The number, 1 to 8.
+    /// Returns the number of the refusal, 1 to 8.
     pub const fn number(self) -> u8 {
         self as u8
     }
@@ -54,14 +54,14 @@ impl Refusal {
 impl fmt::Display for Refusal {
     fn fmt(&self, f: &mut fmt::Formatter<'_>) -> fmt::Result {
         let reason = match self {
-            Refusal::BlockSize => "the block size is 0, above 65,536 or no multiple of 8",
-            Refusal::TooManyBits => "there are too many bits",
-            Refusal::TooFewWords => "there are fewer words than the bits need",
-            Refusal::TooFewNodes => "there are fewer node numbers than the bits need",
-            Refusal::NotAHandle => "a handle lies past the row or does not open",
+            Refusal::BlockSize => "the block size is 0, above 65,536 or not a multiple of 8",
+            Refusal::TooManyBits => "the row has too many bits",
+            Refusal::TooFewWords => "the row has fewer words than its bits need",
+            Refusal::TooFewNodes => "the node buffer has fewer entries than the row needs",
+            Refusal::NotAHandle => "a handle is past the end of the row or is not an open bit",
             Refusal::NotAParenthesis => "the text holds a byte other than ( or )",
             Refusal::NotOneTree => "the row is not one tree",
-            Refusal::NodesMisfit => "the nodes do not fit the row",
+            Refusal::NodesMisfit => "the node buffer does not fit the row",
         };
         write!(f, "refused {}: {reason}", self.number())
     }

@@ -1,5 +1,7 @@
-//! The C header declares exactly the functions that the two Rattle crates export, and each is exported by one of them only.
-//! That `vault` calls no other name is the linker's to tell.
+//! Compares the names in the C header with the functions that the Rattle crates `capi` and `probe` export.
+//!
+//! The header declares exactly these functions, and each is exported by only one of the two crates. The linker tests that
+//! `vault` calls no other name.
 
 use std::collections::BTreeSet;
 use std::fs;
@@ -13,7 +15,7 @@ fn read(path: &Path) -> String {
     fs::read_to_string(path).unwrap_or_else(|error| panic!("{}: {error}", path.display()))
 }
 
-/// The names of functions in the lines that begin so.
+/// Returns the function names in the lines that begin with `start`.
 fn named(text: &str, start: &str) -> BTreeSet<String> {
     let is_part = |c: char| c.is_ascii_alphanumeric() || c == '_';
     let lines = text.lines().filter(|line| line.starts_with(start));
@@ -21,10 +23,12 @@ fn named(text: &str, start: &str) -> BTreeSet<String> {
     words.filter(|word| word.starts_with("bp_") || word.starts_with("bpw_")).map(str::to_owned).collect()
 }
 
+/// Returns the names of the functions that a crate exports.
 fn exported(library: &str) -> BTreeSet<String> {
-    let sources = fs::read_dir(repository().join("crates").join(library).join("src")).expect("the crate has sources");
+    let sources = fs::read_dir(repository().join("crates").join(library).join("src"))
+        .expect("cannot read the sources of the crate");
     sources
-        .map(|file| read(&file.expect("a folder can be read").path()))
+        .map(|file| read(&file.expect("cannot read a folder entry").path()))
         .flat_map(|text| named(&text, "pub extern \"C\" fn"))
         .collect()
 }

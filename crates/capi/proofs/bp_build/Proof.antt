@@ -8,11 +8,11 @@ use mir.Syntax.{w64}
 use mir.ValLaws.{toZ-ofZ}
 use Rattle.row.specs.Answer.{at}
 use Rattle.row.specs.Gates.{through}
-use Rattle.layout.specs.Layout.{nodesGate}
+use Rattle.mmt_layout.specs.Layout.{nodesGate}
 use Rattle.wire.specs.Answer.{wireOf}
 use Rattle.wire.specs.Bytes.{wordAt, numberAt, wordsIn}
 use Rattle.capi.specs.Build.{leftBytes}
-use Rattle.wire.proofs.Lent.{lent, lent-few, same}
+use Rattle.wire.proofs.Decoded.{lent, lent-few, same}
 use borrow.Author.Needs.{needs}
 use Rattle.capi.proofs.bp_build.Statement.{statement}
 use Rattle.capi.proofs.bp_build.Tie as tie

@@ -4,9 +4,9 @@ use native.Mathlib.Omega.{arith}
 use borrow.Author.Needs.{needs}
 use lib.ListN.{length}
 use Rattle.row.specs.declared.gate.Gate.{Gate}
-use Rattle.row.specs.declared.gate.Gate.the-variants.{Open, Shut}
+use Rattle.row.specs.declared.gate.Gate.the-variants.{Pass, Refuse}
 use Rattle.text.specs.Text.{textGate}
-use Rattle.text.proofs.Text.{text-fits, words-open, words-shut}
+use Rattle.text.proofs.Text.{text-fits, words-passed, words-refused}
 use Rattle.text.proofs.read_text.Statement.{statement}
 use Rattle.text.proofs.read_text.Tie as tie
 
@@ -15,7 +15,7 @@ abbrev gate : tie.After-admit-text → Gate
 gate c = let a = c .before .before .before .args in textGate (a .text .now) (length (a .words .now))
 
 -- in the arm that writes, they are passed
-passed : (c : tie.After-enum-told) → gate (c .before .before) ≡ Open
+passed : (c : tie.After-enum-told) → gate (c .before .before) ≡ Pass
 passed c = sym (c .before .before .admit-text .ensures) ∙ c .enum-told .given .1
 
 admit-text-requires : tie.Need-admit-text-requires
@@ -27,8 +27,8 @@ enum-known-k c = search needs
 returns : tie.Need-returns
 returns c =
     let b = c .before .before .before in
-    let g : gate b ≡ Shut (c .before .k .given .0 .0) = sym (b .admit-text .ensures) ∙ c .before .k .given .1 in
-    (simp g, words-shut _ _ _ g)
+    let g : gate b ≡ Refuse (c .before .k .given .0 .0) = sym (b .admit-text .ensures) ∙ c .before .k .given .1 in
+    (simp g, words-refused _ _ _ g)
 
 enum-told : tie.Need-enum-told
 enum-told c = search needs
@@ -46,7 +46,7 @@ returns-2 : tie.Need-returns-2
 returns-2 c =
     let b = c .before .before .before in
     let g = passed (b .before .before) in
-    (simp g, rw (b .words-for .ensures) at (c .before .before .write-words .ensures) ∙ words-open _ _ g)
+    (simp g, rw (b .words-for .ensures) at (c .before .before .write-words .ensures) ∙ words-passed _ _ g)
 
 pub read-text-spec : {M : Type 1} → statement M
 read-text-spec =

@@ -1,7 +1,8 @@
-//! Asks random questions for as long as it is told to, and says how many calls it compared.
+//! Makes random calls for a given time and prints how many it compared.
 //!
-//! `soak --seconds N --seed S`; `--round R` runs one round of a seed again. A difference that is not known ends it with a
-//! panic, after a line that names the round.
+//! Usage: `soak --seconds N --seed S`. The option `--round R` repeats one round of a seed.
+//!
+//! At an unknown difference the program prints the number of the round and panics.
 #![forbid(unsafe_code)]
 
 use std::io::Write;
@@ -11,6 +12,7 @@ use std::time::{Duration, Instant};
 
 use differential::{rounds, Rng, Tally};
 
+/// The command line options.
 struct Told {
     seconds: u64,
     seed: u64,
@@ -46,26 +48,27 @@ fn main() {
     println!("{tally}");
 }
 
-/// One round. Rounds depend on the seed and their number only.
+/// Runs one round. It depends only on the seed and on the number of the round.
 fn run(seed: u64, number: u64, tally: &mut Tally) {
     let mut rng = Rng::of_round(seed, number);
     let most = if number.is_multiple_of(64) { 100_000 } else { 5000 };
     if let Err(difference) = catch_unwind(AssertUnwindSafe(|| rounds::any(&mut rng, most, tally))) {
-        eprintln!("in round {number} of seed {seed}");
+        eprintln!("the difference is in round {number} of seed {seed}");
         resume_unwind(difference);
     }
 }
 
+/// Parses the command line.
 fn told(mut words: impl Iterator<Item = String>) -> Result<Told, String> {
     let mut told = Told { seconds: 10, seed: 0, round: None };
     while let Some(word) = words.next() {
-        let value = words.next().ok_or_else(|| format!("{word} lacks its number"))?;
-        let number = value.parse().map_err(|_| format!("{value} is no number"))?;
+        let value = words.next().ok_or_else(|| format!("{word} needs a number"))?;
+        let number = value.parse().map_err(|_| format!("{value} is not a number"))?;
         match word.as_str() {
             "--seconds" => told.seconds = number,
             "--seed" => told.seed = number,
             "--round" => told.round = Some(number),
-            _ => return Err(format!("{word} is unknown")),
+            _ => return Err(format!("unknown option {word}")),
         }
     }
     Ok(told)

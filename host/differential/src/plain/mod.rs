@@ -1,5 +1,7 @@
-//! A second implementation of the scope document, written from its sentences alone: bit by bit, over sums that cannot overflow,
-//! for any input whatsoever. Each function says which sentence it is.
+//! A second implementation of all calls, written only from the sentences of SCOPE (`docs/SCOPE.md`).
+//!
+//! It reads the row bit by bit, its sums cannot overflow, and it accepts any input. The comments name the section of SCOPE that
+//! each part implements.
 
 mod nodes;
 mod row;
@@ -13,31 +15,31 @@ use walk::Way::{Backward, Forward};
 
 pub use text::read_text;
 
-/// The most bits over words: 2 is "n above 2^32".
+/// The greatest bit count of a call over words. Refusal 2 starts above it.
 pub const MOST_WORDS: u64 = 1 << 32;
 
-/// The most bits over bytes: 2 is "through C, over 4,096 bits".
+/// The greatest bit count of a call over bytes. Refusal 2 starts above it.
 pub const MOST_BYTES: u64 = 4096;
 
-/// What a caller lends.
+/// The arguments that all calls share.
 #[derive(Clone, Copy, Debug)]
 pub struct Lent<'a> {
     /// The words of the row.
     pub words: &'a [u64],
-    /// "a bit count n".
+    /// The bit count `n`.
     pub bits: u64,
     /// The node buffer.
     pub nodes: &'a [i64],
-    /// "Block size B".
+    /// The block size `B`.
     pub block: u64,
-    /// The most bits that are not refused.
+    /// The greatest bit count that is not refused.
     pub most: u64,
 }
 
-/// A position, nothing, or the number of a refusal.
+/// A position, nothing (`None`), or the number of a refusal.
 type Found = Result<Option<u64>, u8>;
 
-/// Asks a call.
+/// Makes a call.
 pub fn ask(lent: Lent, call: Call) -> Answer {
     let found = |found: Found| found.map(Answer::from);
     let answer = match call {
@@ -73,42 +75,42 @@ pub fn ask(lent: Lent, call: Call) -> Answer {
     answer.unwrap_or_else(Answer::refused)
 }
 
-/// "Numbers a caller can get back", in their order.
+/// SCOPE, Refusals: the tests before an answer, in their order.
 impl Lent<'_> {
-    /// Refusals 1 to 4.
+    /// Tests refusals 1 to 4.
     pub fn admit(&self) -> Result<(), u8> {
-        // 1: "B is 0, above 65,536 or no multiple of 8"
+        // Refusal 1: the block size is invalid.
         if self.block == 0 || self.block > 65_536 || !self.block.is_multiple_of(8) {
             return Err(1);
         }
         self.admit_row()?;
-        // 4: "fewer node numbers than 3(L+I)"
+        // Refusal 4: the node buffer has fewer than three entries per min-max node.
         if (self.nodes.len() as u64) < 3 * self.count() {
             return Err(4);
         }
         Ok(())
     }
 
-    /// Refusals 2 and 3: "Calls without nodes skip 1, 4 and 8".
+    /// Tests refusals 2 and 3, the only ones of 1 to 4 for a call without a node buffer.
     pub fn admit_row(&self) -> Result<(), u8> {
-        // 2: more bits than this way takes
+        // Refusal 2: there are more bits than this kind of call accepts.
         if self.bits > self.most {
             return Err(2);
         }
-        // 3: "fewer words than n needs"
+        // Refusal 3: the row is too short for its bit count.
         if (self.words.len() as u64) < self.bits.div_ceil(64) {
             return Err(3);
         }
         Ok(())
     }
 
-    /// Refusals 1 to 5: "a handle is >= n or does not open".
+    /// Tests refusals 1 to 5 for a call on the outline node `v` with a node buffer.
     fn admit_node(&self, v: u64) -> Result<(), u8> {
         self.admit()?;
         self.admit_handle(v)
     }
 
-    /// Refusals 2, 3 and 5.
+    /// Tests refusals 2, 3 and 5 for a call on the outline node `v` without a node buffer.
     fn admit_handle(&self, v: u64) -> Result<(), u8> {
         self.admit_row()?;
         if self.is_open(v) {

@@ -1,8 +1,8 @@
-//! "The node buffer".
+//! SCOPE, The node buffer: the layout of the min-max tree and the entries that a build writes.
 
 use super::Lent;
 
-/// "Three i64 a node": total, least and greatest running excess.
+/// The three entries of a min-max node: total, least and greatest running excess.
 #[derive(Clone, Copy, Debug, PartialEq, Eq)]
 pub(super) struct Node {
     pub(super) total: i128,
@@ -11,12 +11,13 @@ pub(super) struct Node {
 }
 
 impl Lent<'_> {
-    /// "Leaves L = n div B, rounded up."
+    /// Returns `L`, the number of block leaves.
     pub(super) fn leaves(&self) -> u64 {
         self.bits.div_ceil(self.block)
     }
 
-    /// "Internal count I = max(1, P-1), P the least power of two >= L; with n = 0 there are no nodes."
+    /// Returns `I`, the number of inner min-max nodes: `P - 1` for the smallest power of two `P` that is not below `L`, but at
+    /// least 1. An empty row has no min-max nodes.
     pub(super) fn inner(&self) -> u64 {
         let mut p = 1;
         while p < self.leaves() {
@@ -29,23 +30,23 @@ impl Lent<'_> {
         }
     }
 
-    /// All nodes: "leaf b is node I+b".
+    /// Returns the number of all min-max nodes. The inner nodes come first, so block leaf `b` has the index `I + b`.
     pub(super) fn count(&self) -> u64 {
         self.leaves() + self.inner()
     }
 
-    /// Node k: "at 3k, 3k+1, 3k+2: total, least and greatest".
+    /// Returns min-max node `k`, whose entries start at index `3k` of the node buffer.
     pub(super) fn node(&self, k: u64) -> Node {
         let number = |j: usize| self.nodes[3 * k as usize + j].into();
         Node { total: number(0), least: number(1), greatest: number(2) }
     }
 
-    /// The bits of block b.
+    /// Returns the positions of block `b`.
     pub(super) fn block_bits(&self, b: u64) -> std::ops::Range<u64> {
         b * self.block..self.bits.min((b + 1) * self.block)
     }
 
-    /// The numbers of leaf b, "counted after each bit from the node's own start".
+    /// Computes block leaf `b` from its bits. The running excess starts with 0 at the first bit of the block.
     pub(super) fn leaf(&self, b: u64) -> Node {
         let mut total = 0;
         let after = |i| {
@@ -53,12 +54,12 @@ impl Lent<'_> {
             total
         };
         let runs: Vec<i128> = self.block_bits(b).map(after).collect();
-        let least = *runs.iter().min().expect("a block has bits");
-        let greatest = *runs.iter().max().expect("a block has bits");
+        let least = *runs.iter().min().expect("a block is not empty");
+        let greatest = *runs.iter().max().expect("a block is not empty");
         Node { total, least, greatest }
     }
 
-    /// The numbers that a build writes, of nodes 0 to L+I-1. The row and B have passed the tests.
+    /// Returns the entries that a build writes, in the order of the min-max nodes. Refusals 1 to 3 do not apply.
     pub fn build(&self) -> Vec<i64> {
         let (inner, count) = (self.inner(), self.count());
         let mut nodes = vec![Node { total: 0, least: 0, greatest: 0 }; count as usize];
@@ -66,22 +67,22 @@ impl Lent<'_> {
             let child = |j: u64| nodes.get((2 * k + j) as usize).copied();
             nodes[k as usize] = match (child(1), child(2)) {
                 _ if k >= inner => self.leaf(k - inner),
-                // "An internal node with two children has total tl+tr, least min(ml, tl+mr), greatest max(xl, tl+xr)."
+                // The running excess of the right child continues at the total of the left child.
                 (Some(left), Some(right)) => Node {
                     total: left.total + right.total,
                     least: left.least.min(left.total + right.least),
                     greatest: left.greatest.max(left.total + right.greatest),
                 },
-                // "With a left child only it copies it."
+                // A min-max node with only a left child is equal to that child.
                 (Some(left), None) => left,
-                // "With none it is (0,0,0)."
+                // An inner min-max node without children has three zeros.
                 (None, _) => Node { total: 0, least: 0, greatest: 0 },
             };
         }
         nodes.iter().flat_map(|node| [node.total, node.least, node.greatest]).map(|number| number as i64).collect()
     }
 
-    /// Whether the buffer begins with the nodes that a build writes.
+    /// Tests whether the node buffer begins with exactly the entries that a build writes.
     pub fn as_built(&self) -> bool {
         self.nodes.starts_with(&self.build())
     }

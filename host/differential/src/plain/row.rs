@@ -1,20 +1,20 @@
-//! "The row and its excess", and the calls that are made of the two searches.
+//! SCOPE, The row and its excess; SCOPE, The calls: the bits of the row, and the calls that consist of searches.
 
 use super::walk::Way::{self, Backward, Forward};
 use super::{Found, Lent};
 
 impl Lent<'_> {
-    /// "Bit i is bit (i mod 64), counted from the least significant, of word (i div 64)"; "1 opens, 0 closes".
+    /// Tests whether bit `i` is an open bit. The least significant bit of a word comes first.
     pub(super) fn bit(&self, i: u64) -> bool {
         self.words[(i / 64) as usize] >> (i % 64) & 1 == 1
     }
 
-    /// Whether position i is an open bit of the row.
+    /// Tests whether `i` is the position of an open bit of the row.
     pub(super) fn is_open(&self, i: u64) -> bool {
         i < self.bits && self.bit(i)
     }
 
-    /// What bit i adds to the excess.
+    /// Returns the amount that bit `i` adds to the excess.
     pub(super) fn step(&self, i: u64) -> i128 {
         if self.bit(i) {
             1
@@ -23,27 +23,28 @@ impl Lent<'_> {
         }
     }
 
-    /// "close(i) = fwd(i, -1)".
+    /// Searches forward for the excess one below the excess after `i`.
     pub(super) fn close(&self, i: u64) -> Found {
         self.search(Forward, i, -1)
     }
 
-    /// "open(i) = bwd(i, -1)".
+    /// Searches backward for the excess one below the excess before `i`.
     pub(super) fn open(&self, i: u64) -> Found {
         self.search(Backward, i, -1)
     }
 
-    /// "enclose(i) = bwd(i, -1) at an open bit, bwd(i, -2) at a close bit".
+    /// Searches backward for the open bit around `i`. The excess before a close bit includes its own pair, so the search goes
+    /// one level further from there.
     pub(super) fn enclose(&self, i: u64) -> Found {
         self.search(Backward, i, if self.is_open(i) { -1 } else { -2 })
     }
 
-    /// "first_child(v): v+1 if that bit opens".
+    /// Returns the next position if it has an open bit.
     pub(super) fn first_child(&self, v: u64) -> Option<u64> {
         self.is_open(v + 1).then_some(v + 1)
     }
 
-    /// "last_child(v): if bit v+1 opens and v closes at c, open(c-1)".
+    /// Returns the outline node that ends just before the close bit of `v`, unless `v` has no child.
     pub(super) fn last_child(&self, v: u64) -> Found {
         if !self.is_open(v + 1) {
             return Ok(None);
@@ -54,12 +55,12 @@ impl Lent<'_> {
         }
     }
 
-    /// "next_sibling(v): close(v)+1 if that is an open bit of the row".
+    /// Returns the position after the close bit of `v` if it has an open bit.
     pub(super) fn next_sibling(&self, v: u64) -> Found {
         Ok(self.close(v)?.map(|c| c + 1).filter(|&next| self.is_open(next)))
     }
 
-    /// "previous_sibling(v): open(v-1) if v > 0 and bit v-1 closes".
+    /// Returns the outline node that ends just before `v`, if there is one.
     pub(super) fn previous_sibling(&self, v: u64) -> Found {
         if v > 0 && !self.bit(v - 1) {
             self.open(v - 1)
@@ -68,17 +69,17 @@ impl Lent<'_> {
         }
     }
 
-    /// "is_leaf(v): bit v+1 exists and closes".
+    /// Tests whether the row goes on with a close bit after `v`.
     pub(super) fn is_leaf(&self, v: u64) -> bool {
         v + 1 < self.bits && !self.bit(v + 1)
     }
 
-    /// "is_ancestor(a, d): nothing if a has no close c; else whether a <= d and d < c".
+    /// Tests whether `d` is between `a` and the close bit of `a`. Without such a close bit the answer is nothing.
     pub(super) fn is_ancestor(&self, a: u64, d: u64) -> Result<Option<bool>, u8> {
         Ok(self.close(a)?.map(|c| a <= d && d < c))
     }
 
-    /// "level_ancestor(v, k): v if k = 0, else bwd(v, -k)".
+    /// Searches backward for the excess `k` below the excess before `v`. The ancestor 0 levels above `v` is `v` itself.
     pub(super) fn level_ancestor(&self, v: u64, k: u64) -> Found {
         if k == 0 {
             Ok(Some(v))
@@ -87,7 +88,7 @@ impl Lent<'_> {
         }
     }
 
-    /// "level_next(v): fwd(close(v), 1)"; "Nothing passes through".
+    /// Searches forward from the close bit of `v` for the next open bit on the same level.
     pub(super) fn level_next(&self, v: u64) -> Found {
         match self.close(v)? {
             Some(c) => self.search(Forward, c, 1),
@@ -95,7 +96,7 @@ impl Lent<'_> {
         }
     }
 
-    /// "level_prev(v): open(bwd(v, 1))".
+    /// Searches backward for the previous close bit on the level of `v`, then for the open bit that matches it.
     pub(super) fn level_prev(&self, v: u64) -> Found {
         match self.search(Backward, v, 1)? {
             Some(c) => self.open(c),
@@ -103,7 +104,7 @@ impl Lent<'_> {
         }
     }
 
-    /// "level_leftmost(k): 0 if k = 0 and n > 0, else fwd(0, k)".
+    /// Searches forward from position 0 for the excess `k` above the excess after it. Level 0 begins at position 0.
     pub(super) fn level_leftmost(&self, k: u64) -> Found {
         if k == 0 && self.bits > 0 {
             Ok(Some(0))
@@ -112,9 +113,12 @@ impl Lent<'_> {
         }
     }
 
-    /// "level_rightmost(k): open(bwd(2*ones - 1, k))". "On a non-empty row level_rightmost examines the root first and takes
-    /// n + total - 1 as its starting index, nothing if that is below 0 or at least n." "k > n gives nothing and no node is
-    /// examined."
+    /// Searches backward from a start position for the excess `k` above the excess there, then answers `open` of the position
+    /// found.
+    ///
+    /// The start position is twice the number of open bits, minus 1. It is computed as `n` plus the total of the root of the
+    /// min-max tree, minus 1, also if the node buffer is foreign. A start outside the row gives nothing. A level above `n` gives
+    /// nothing before any min-max node is examined.
     pub(super) fn level_rightmost(&self, k: u64) -> Found {
         if self.bits == 0 || k > self.bits {
             return Ok(None);
@@ -129,7 +133,7 @@ impl Lent<'_> {
         }
     }
 
-    /// "One tree: n >= 2, E(n) = 0, and E(k) > 0 for 0 < k < n."
+    /// Tests whether the excess is positive between the ends of the row and 0 at its end, with at least two bits.
     pub(super) fn one_tree(&self) -> bool {
         let mut excess = 0;
         for k in 0..self.bits {
@@ -142,17 +146,20 @@ impl Lent<'_> {
     }
 }
 
-/// "Listing children".
+/// SCOPE, Listing children.
 impl Lent<'_> {
-    /// The answers of a listing's steps, up to and with the first nothing, at most as many as there is room for. "children
-    /// starts at first_child and goes by next_sibling; rev_children starts at last_child and goes by previous_sibling."
+    /// Returns the encoded answers of the steps of a listing, up to and including the first nothing, but at most `room`.
+    ///
+    /// A forward listing goes from the first child to each next sibling. A backward listing goes from the last child to each
+    /// previous sibling.
     pub(super) fn listing(&self, v: u64, room: usize, way: Way) -> Result<Vec<i64>, u8> {
-        // "A bad handle is refused when the listing is made"; a refusal "met in seeking the first is the making's"
+        // The creation of the listing refuses a bad handle, and propagates a refusal of the search for its first answer.
         self.admit_node(v)?;
         let mut held = if way == Forward { Ok(self.first_child(v)) } else { Ok(self.last_child(v)?) };
         let mut steps = Vec::new();
         while steps.len() < room {
-            // "A step answers the handle it holds and seeks the next; a refusal met there .. is the next step's answer"
+            // A step answers the value in `held`, then searches for the next value. If that search refuses, the refusal is the
+            // answer of the next step.
             steps.push(match held {
                 Ok(Some(c)) => c as i64,
                 Ok(None) => -1,
@@ -164,7 +171,7 @@ impl Lent<'_> {
                     Backward => self.previous_sibling(c),
                 }),
                 Ok(None) => break,
-                // "After a refusal or the end, steps answer nothing."
+                // A refusal ends the listing.
                 Err(_) => Ok(None),
             };
         }

@@ -9,7 +9,7 @@ fn lend<'a>(row: &'a Row, nodes: &'a [i64], block: u64) -> Lent<'a> {
     Lent { words: &row.words, bits: row.bits as u64, nodes, block, most: MOST_WORDS }
 }
 
-/// Asks over nodes as built.
+/// Makes a call with a node buffer as built.
 fn asked(text: &str, call: Call) -> Answer {
     let row = row(text);
     let nodes = lend(&row, &[], 8).build();
@@ -57,7 +57,7 @@ fn inner_nodes_are_counted_as_tabled() {
     assert_eq!([1, 2, 3, 4, 5, 8, 9].map(inner), [1, 1, 3, 3, 7, 7, 15]);
 }
 
-/// E(k), "opens less closes among the first k bits".
+/// Returns E(0), E(1), .., E(n).
 fn excess(row: &Row) -> Vec<i64> {
     let mut sums = vec![0];
     sums.extend((0..row.bits).scan(0, |sum, i| {
@@ -95,7 +95,7 @@ fn over_nodes_as_built_the_walk_finds_what_the_definitions_say() {
     }
 }
 
-/// Foreign nodes led to a position that does not open: the listing answers it, is refused there, and ends.
+/// A foreign node buffer leads the search to a close bit. The listing answers that position, then refusal 5, and then ends.
 #[test]
 fn a_listing_over_foreign_nodes_ends_in_refusal_5() {
     let row = row("((((())))((()()())))");

@@ -1,5 +1,6 @@
-/// The reader of text: "tests 2, 6, then 3 and writes nothing when it refuses; otherwise it writes the words that n needs,
-/// unused bits 0".
+/// Returns the words that the text reader writes into a row of `words` words, or the number of its refusal.
+///
+/// SCOPE, The text reader: refusal 2 comes first, then 6, then 3. Unused bits of the last word are 0.
 pub fn read_text(text: &[u8], words: usize, most: u64) -> Result<Vec<u64>, u8> {
     if text.len() as u64 > most {
         return Err(2);

@@ -1,9 +1,9 @@
-//! "How a search walks".
+//! SCOPE, How a search walks: start block, climb, descent, target block.
 
 use super::nodes::Node;
 use super::{Found, Lent};
 
-/// Which way a search goes.
+/// The direction of a search.
 #[derive(Clone, Copy, PartialEq, Eq)]
 pub(super) enum Way {
     Forward,
@@ -12,29 +12,31 @@ pub(super) enum Way {
 use Way::{Backward, Forward};
 
 impl Lent<'_> {
-    /// fwd_search(i, r) and bwd_search(i, r), once 1 to 4 are passed.
+    /// Answers `fwd_search(i, r)` or `bwd_search(i, r)`. Refusals 1 to 4 do not apply.
     pub(super) fn search(&self, way: Way, i: u64, r: i128) -> Found {
-        // "Nothing if none, and when i >= n"; "if |r| > n the answer is nothing and no node is examined"
+        // A position past the row and an `r` out of reach give nothing before any min-max node is examined.
         if i >= self.bits || r.abs() > i128::from(self.bits) {
             return Ok(None);
         }
-        // "Forward with i + 1 >= n, backward with i = 0 or i >= n: nothing at once, no node examined."
+        // There is no position after the last one and none before position 0.
         if (way == Forward && i + 1 >= self.bits) || (way == Backward && i == 0) {
             return Ok(None);
         }
-        // "scan the rest of the starting block: forward, block (i+1) div B; backward, block (i-1) div B"
+        // The start block is the block of the first position that can be the answer. Scan it from that position on.
         let b = if way == Forward { (i + 1) / self.block } else { (i - 1) / self.block };
         let bits = self.block_bits(b);
         let rest = if way == Forward { i + 1..bits.end } else { bits.start..i };
         match self.scan(way, rest, r) {
             Ok(j) => Ok(Some(j)),
-            // "If the position is not there, climb."
+            // The start block does not contain the answer.
             Err(left) => self.climb(way, self.inner() + b, left),
         }
     }
 
-    /// The position in a stretch of bits that moves the excess by r: "Forward compares the excess after a position, backward
-    /// the excess before it." What is left of r past the stretch, if there is none.
+    /// Returns the nearest position in a stretch of bits that changes the excess by `r`. If there is none, returns the remainder
+    /// of `r` after the stretch as an error.
+    ///
+    /// A forward search counts the excess after a position, a backward search the excess before it.
     pub(super) fn scan(&self, way: Way, bits: std::ops::Range<u64>, r: i128) -> Result<u64, i128> {
         let mut left = r;
         let mut hits = |i| {
@@ -45,7 +47,7 @@ impl Lent<'_> {
         hit.ok_or(left)
     }
 
-    /// "an examined node has one of its numbers outside -2^32..2^32": refusal 8.
+    /// Returns min-max node `k`. Refuses with 8 if one of its entries is below -2^32 or above 2^32.
     pub(super) fn examine(&self, k: u64) -> Result<Node, u8> {
         let node = self.node(k);
         let fits = |number: i128| (-(1 << 32)..=1 << 32).contains(&number);
@@ -56,9 +58,10 @@ impl Lent<'_> {
         }
     }
 
-    /// Whether an examined node holds r, and what is left of r past it. "descend if least <= r <= greatest, else subtract its
-    /// total"; "Backward is the mirror, with s = r + total of the node examined, and descent if s = 0 or
-    /// least <= s <= greatest".
+    /// Tests whether an examined min-max node contains the remainder `r`. Also returns the remainder after the node.
+    ///
+    /// A backward search enters the stretch of the node at its end, so it compares `r` plus the total of the node with the least
+    /// and the greatest excess. If that sum is 0, the first bit of the stretch is an answer.
     pub(super) fn asked(way: Way, node: Node, r: i128) -> (bool, i128) {
         let within = |s: i128| node.least <= s && s <= node.greatest;
         match way {
@@ -67,8 +70,10 @@ impl Lent<'_> {
         }
     }
 
-    /// From a leaf's node: "from a right child go up; from a left child without sibling, nothing; otherwise examine the right
-    /// sibling, descend if .., else subtract its total and go up; at the root, nothing."
+    /// Climbs from a block leaf to the root and examines each sibling that is ahead in the direction of the search.
+    ///
+    /// The first sibling that contains the remainder `r` starts the descent. If a sibling is missing, or at the root, the answer
+    /// is nothing.
     pub(super) fn climb(&self, way: Way, leaf: u64, r: i128) -> Found {
         let (mut k, mut levels, mut r) = (leaf, 0, r);
         while k > 0 {
@@ -90,8 +95,11 @@ impl Lent<'_> {
         Ok(None)
     }
 
-    /// "Descent examines the left child first, then the right with r less the left total"; backward the mirror. "in a descent
-    /// neither child qualifies or a needed child is absent": refusal 8.
+    /// Descends `levels` levels from a min-max node to a block leaf, and scans its block.
+    ///
+    /// On each level it examines the nearer child first, and the farther child with the remainder after the nearer one. Refuses
+    /// with 8 if neither child contains the remainder, if a child that it needs is missing, or if the block does not contain the
+    /// position.
     pub(super) fn descend(&self, way: Way, node: u64, levels: u32, r: i128) -> Found {
         let (mut k, mut r) = (node, r);
         for _ in 0..levels {
@@ -106,11 +114,11 @@ impl Lent<'_> {
                 (k, r) = (far, left);
             }
         }
-        // "the leaf reached does not hold the position": refusal 8
+        // Only a foreign node buffer leads to a block that does not contain the position.
         self.scan(way, self.block_bits(k - self.inner()), r).map(Some).map_err(|_| 8)
     }
 
-    /// A child, examined in a descent.
+    /// Examines a child during a descent. Refuses with 8 if the child is missing.
     pub(super) fn child(&self, way: Way, k: u64, r: i128) -> Result<(bool, i128), u8> {
         if k >= self.count() {
             return Err(8);

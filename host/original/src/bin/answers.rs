@@ -1,19 +1,24 @@
-//! The original's answers to a fixed list of questions, as the program `replay` prints its own.
+//! Prints the answers of the original to a fixed list of calls, in the format of the program `test_replay`.
 //!
-//! It makes the list that the gate compares that program with. In the folder of the workspace:
+//! The output is the file that CI compares with the output of `test_replay`. The command, in the folder of the workspace:
 //!
-//!     cargo run --release -p original --bin answers < ../crates/replay/stdin > ../crates/replay/stdout
+//!     cargo run --release -p original --bin answers < ../crates/test_replay/stdin > ../crates/test_replay/stdout
 //!
-//! Standard input holds one row of parentheses a line, none of them empty. Each is asked in blocks of 8 and of 64 bits: a line
-//! that names the block size and the row, a line for every position and one for every level down to where none is left. Answers stand
-//! apart by a space: a position, `-` for nothing, `y` and `n` for yes and no.
+//! Standard input has one row of parentheses per line, and no empty line. For each row and each of the block sizes 8 and 64 the
+//! program prints
+//!
+//! - a line with the block size and the row,
+//! - a line for each position,
+//! - a line for each level, up to and including the first one without answers.
+//!
+//! Spaces separate the answers. An answer is a position, `-` for nothing, `y` for yes or `n` for no.
 #![forbid(unsafe_code)]
 
 use std::io::{self, BufWriter, Write};
 
 use original::{BpTree, IsAncestor, LevelTree, Tree};
 
-/// How far the two searches look from every position.
+/// The values of `r` for the two searches from every position.
 const APART: [i64; 3] = [-2, 0, 3];
 
 fn main() -> io::Result<()> {
@@ -40,7 +45,7 @@ fn print_row<const BLOCK: usize>(row: &str, out: &mut impl Write) -> io::Result<
     print_levels(&tree, row.len() as u64, out)
 }
 
-/// The levels from 0 on, up to the first of which neither end is found.
+/// Prints the levels from 0 on, up to and including the first one without a leftmost and a rightmost outline node.
 fn print_levels<const BLOCK: usize>(tree: &BpTree<BLOCK>, bits: u64, out: &mut impl Write) -> io::Result<()> {
     for level in 0..bits {
         let ends = [tree.level_leftmost(level), tree.level_rightmost(level)];
@@ -60,7 +65,7 @@ fn tree_over<const BLOCK: usize>(row: &str) -> BpTree<BLOCK> {
     BpTree::from_bit_vector(original::row(words, row.len()))
 }
 
-/// What is asked of every position.
+/// Returns the answers of the calls that take any position.
 fn of_position<const BLOCK: usize>(tree: &BpTree<BLOCK>, i: usize) -> Vec<String> {
     let single = [tree.close(i), tree.open(i), tree.enclose(i)];
     let forward = APART.map(|r| tree.fwd_search(i, r));
@@ -68,7 +73,8 @@ fn of_position<const BLOCK: usize>(tree: &BpTree<BLOCK>, i: usize) -> Vec<String
     single.into_iter().chain(forward).chain(backward).map(found).collect()
 }
 
-/// What is asked of a position that opens besides; `before` is the node that opens before it, or itself if it is the first.
+/// Returns the answers of the calls that take a handle `v`. `before` is the previous handle of the row, or `v` itself if there
+/// is none.
 fn of_node<const BLOCK: usize>(tree: &BpTree<BLOCK>, v: usize, before: usize) -> Vec<String> {
     let around =
         [tree.parent(v), tree.first_child(v), tree.last_child(v), tree.next_sibling(v), tree.previous_sibling(v)];
@@ -78,7 +84,7 @@ fn of_node<const BLOCK: usize>(tree: &BpTree<BLOCK>, v: usize, before: usize) ->
     answers.chain(listing(tree.children(v))).chain(listing(tree.rev_children(v))).collect()
 }
 
-/// A listing's answers with the nothing that ends them.
+/// Returns the answers of a listing and the nothing that ends them.
 fn listing(children: impl Iterator<Item = usize>) -> impl Iterator<Item = String> {
     children.map(Some).chain([None]).map(found)
 }

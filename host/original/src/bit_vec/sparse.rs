@@ -1,9 +1,9 @@
-//! Supplied. `bit_vec/mod.rs` declares this module and uses nothing of it. As a child of `bit_vec` it can make a bit vector
-//! from given words.
+//! Replacement. `bit_vec/mod.rs` declares this module but uses nothing of it. As a child of `bit_vec` the module can access
+//! private fields, so it can create a bit vector from words.
 
 use super::BitVec;
 
-/// The first `len` bits of `data`. Bits from `len` on and surplus words are kept as they are.
+/// Creates a bit vector of the first `len` bits of `data`. It keeps surplus words, and the bits from `len` on, unchanged.
 pub fn row(data: Vec<u64>, len: usize) -> BitVec {
     BitVec { data, len }
 }

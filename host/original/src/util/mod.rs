@@ -1,14 +1,15 @@
-//! Supplied: the macros that the original's files call, and `pdep`.
+//! Replacement: the macros that the files of the original call, and `pdep`.
 
 pub(crate) mod pdep;
 
-/// Iterators over a vector's bits. No file given uses them, so none are made.
+/// Generates nothing. The macro of the original generates iterators over the bits of a vector, but no file in `docs/src` uses
+/// them.
 macro_rules! impl_vector_iterator {
     ($vec:ty, $into_iter:ident, $ref_iter:ident) => {};
 }
 pub(crate) use impl_vector_iterator;
 
-/// The body and then the step, so many times, with a variable that the step moves.
+/// Runs `body` and then `step`, `n` times. `step` changes the variable `i`.
 macro_rules! unroll_n {
     ($n:literal, |$i:ident = $init:block| $body:expr, $step:expr) => {{
         #[allow(unused_mut)]

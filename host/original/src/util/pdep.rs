@@ -1,11 +1,11 @@
-//! Supplied: parallel bit deposit, for select within a word.
+//! Replacement: parallel bit deposit. The original uses it for select within a word.
 
 pub(crate) trait Pdep {
     fn pdep(self, mask: Self) -> Self;
 }
 
 impl Pdep for u64 {
-    /// The low bits of `self` at the places of the ones of `mask`, in order.
+    /// Moves the low bits of `self`, in order, to the positions of the 1 bits of `mask`. All other bits of the result are 0.
     fn pdep(self, mut mask: u64) -> u64 {
         let (mut bits, mut placed) = (self, 0);
         while mask != 0 {

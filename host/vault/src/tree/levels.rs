@@ -1,9 +1,9 @@
 use super::{ask, place, Tree};
 use crate::{words, Refusal};
 
-/// Calls on levels. The root's level is 0.
+/// Calls on levels. The root has level 0.
 impl Tree<'_> {
-    /// The ancestor of a node so many levels up: the node itself for none.
+    /// Returns the ancestor that is `levels` levels above `node`, and `node` itself if `levels` is 0.
     ///
     /// ```
     /// use vault::Tree;
@@ -19,19 +19,19 @@ impl Tree<'_> {
         place(ask!(self.level_ancestor(node as u64, levels)))
     }
 
-    /// The next node of a node's level.
+    /// Returns the next outline node on the level of `node`.
     #[inline]
     pub fn level_next(&self, node: usize) -> Result<Option<usize>, Refusal> {
         place(ask!(self.level_next(node as u64)))
     }
 
-    /// The node before a node on its level.
+    /// Returns the previous outline node on the level of `node`.
     #[inline]
     pub fn level_prev(&self, node: usize) -> Result<Option<usize>, Refusal> {
         place(ask!(self.level_prev(node as u64)))
     }
 
-    /// The first node of a level.
+    /// Returns the first outline node on a level. For level 0 it returns 0 on every row that has bits.
     ///
     /// ```
     /// use vault::Tree;
@@ -47,7 +47,9 @@ impl Tree<'_> {
         place(ask!(self.level_leftmost(level)))
     }
 
-    /// The last node of a level. As in the source, there is none on level 0 of a root without children.
+    /// Returns the last outline node on a level.
+    ///
+    /// For level 0 it returns `None` if the root has no child, as the original does.
     #[inline]
     pub fn level_rightmost(&self, level: u64) -> Result<Option<usize>, Refusal> {
         place(ask!(self.level_rightmost(level)))

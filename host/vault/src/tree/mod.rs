@@ -9,14 +9,15 @@ use std::str::FromStr;
 
 use crate::{words, Refusal};
 
-/// A row of parentheses and its nodes, owned or lent.
+/// A row of parentheses and its node buffer, each owned or borrowed.
 ///
-/// A position is a bit of the row; a handle is a position that opens, and stands for its node. Calls on positions answer any
-/// position, from the row's end on by nothing. Calls on handles refuse what is none.
+/// - Calls on positions accept any number. They return `Ok(None)` if the position is past the end of the row.
+/// - Calls on outline nodes take handles. They return [`Refusal::NotAHandle`] for any other number.
 ///
-/// Every answer is what the row says as long as the nodes are as built for it. A tree that was built here has such nodes. One
-/// that was put together by [`from_parts`](Tree::from_parts) may have any; its answers stay within the row, and calls may refuse
-/// by [`Refusal::NodesMisfit`]. [`is_as_built`](Tree::is_as_built) tells.
+/// Every answer is correct if the node buffer is as built. Parsing, [`build`](Tree::build) and [`build_in`](Tree::build_in)
+/// produce such a node buffer. [`from_parts`](Tree::from_parts) accepts any node buffer, and
+/// [`is_as_built`](Tree::is_as_built) tests it. If it is not as built, a call can return [`Refusal::NodesMisfit`] or a wrong
+/// answer. A wrong position is still a position of the row.
 ///
 /// ```
 /// use vault::{Refusal, Tree};
@@ -36,19 +37,21 @@ pub struct Tree<'a> {
     block: usize,
 }
 
-/// Making a tree, and taking it apart.
+/// Constructors and conversions.
 impl<'a> Tree<'a> {
-    /// The block size of a tree that is parsed.
+    /// The block size that parsing uses.
     pub const BLOCK: usize = 512;
 
-    /// Builds the nodes of a row of so many bits, of which bit i is bit `i % 64` of word `i / 64`, counted from the least
-    /// significant. The words are kept, as they were given: owned or lent.
+    /// Creates the tree of a row and builds its node buffer.
+    ///
+    /// Bit `i` of the row is bit `i % 64` of word `i / 64`, where bit 0 of a word is the least significant one. The tree keeps
+    /// the words as they are passed, owned or borrowed.
     ///
     /// ```
     /// use vault::Tree;
     ///
-    /// let lent = [0b0001_1011];
-    /// let tree = Tree::build(&lent, 8, 64)?;
+    /// let borrowed = [0b0001_1011];
+    /// let tree = Tree::build(&borrowed, 8, 64)?;
     /// assert_eq!(tree.last_child(0), Ok(Some(3)));
     ///
     /// let owned = Tree::build(vec![0b0001_1011], 8, 64)?;
@@ -57,7 +60,8 @@ impl<'a> Tree<'a> {
     /// ```
     pub fn build(words: impl Into<Cow<'a, [u64]>>, bits: usize, block: usize) -> Result<Self, Refusal> {
         let words = words.into();
-        // a build without room tests the block size and the row, before there is anything to count
+        // The build into an empty slice tests the block size, the bit count and the words. Only after these tests is it safe
+        // to compute the size of the node buffer.
         let nodes = match words::build(&words, bits as u64, &mut [], block as u64) {
             Err(Refusal::TooFewNodes) => {
                 let mut nodes = vec![0; node_numbers(bits, block)];
@@ -69,7 +73,9 @@ impl<'a> Tree<'a> {
         Ok(Tree { words, bits, nodes: nodes.into(), block })
     }
 
-    /// Builds the nodes into a lent buffer. What stands past them stays; a refusal leaves all.
+    /// Creates the tree of a row and builds its node buffer in the slice `nodes`.
+    ///
+    /// Elements of `nodes` after the entries that the row needs are unchanged. On refusal the whole slice is unchanged.
     ///
     /// ```
     /// use vault::{Refusal, Tree};
@@ -94,7 +100,10 @@ impl<'a> Tree<'a> {
         Ok(Tree { words, bits, nodes: Cow::Borrowed(nodes), block })
     }
 
-    /// Puts a row and nodes together that came from elsewhere. They are tested for room alone.
+    /// Creates a tree from a row and an existing node buffer.
+    ///
+    /// Only the block size, the bit count and the two lengths are tested. [`is_as_built`](Tree::is_as_built) tests the entries
+    /// of the node buffer.
     ///
     /// ```
     /// use vault::Tree;
@@ -111,17 +120,17 @@ impl<'a> Tree<'a> {
         block: usize,
     ) -> Result<Self, Refusal> {
         let tree = Tree { words: words.into(), bits, nodes: nodes.into(), block };
-        // a question past the row is answered by nothing once everything lent is tested, and no node is looked at
+        // A call past the end of the row makes all tests of its arguments and then reads neither bits nor entries.
         tree.close(bits)?;
         Ok(tree)
     }
 
-    /// The words, the bits, the nodes and the block size.
+    /// Returns the words, the bit count, the node buffer and the block size.
     pub fn into_parts(self) -> (Cow<'a, [u64]>, usize, Cow<'a, [i64]>, usize) {
         (self.words, self.bits, self.nodes, self.block)
     }
 
-    /// The same tree, owning its words and nodes.
+    /// Converts to a tree that owns its words and its node buffer.
     pub fn into_owned(self) -> Tree<'static> {
         Tree {
             words: Cow::Owned(self.words.into_owned()),
@@ -132,14 +141,14 @@ impl<'a> Tree<'a> {
     }
 }
 
-/// How many numbers the nodes of a row take, once the block size and the bits are tested.
+/// Returns the number of entries that the node buffer needs, for a tested block size and a tested bit count above 0.
 fn node_numbers(bits: usize, block: usize) -> usize {
     let leaves = bits.div_ceil(block);
     let inner = (leaves.next_power_of_two() - 1).max(1);
     3 * (leaves + inner)
 }
 
-/// Reads parenthesis text, and builds its nodes in blocks of [`Tree::BLOCK`] bits.
+/// Converts a text of parentheses to a tree with blocks of [`Tree::BLOCK`] bits.
 impl FromStr for Tree<'static> {
     type Err = Refusal;
 
@@ -150,29 +159,29 @@ impl FromStr for Tree<'static> {
     }
 }
 
-/// What a tree is made of.
+/// The parts of a tree, and tests of them.
 impl Tree<'_> {
-    /// The words of the row.
+    /// Returns the words of the row.
     pub fn words(&self) -> &[u64] {
         &self.words
     }
 
-    /// The bits of the row.
+    /// Returns the bit count of the row.
     pub fn bits(&self) -> usize {
         self.bits
     }
 
-    /// The node numbers: three of each node, then what else the buffer holds.
+    /// Returns the node buffer: three entries per min-max node, then any elements that the row does not need.
     pub fn nodes(&self) -> &[i64] {
         &self.nodes
     }
 
-    /// The block size.
+    /// Returns the block size.
     pub fn block(&self) -> usize {
         self.block
     }
 
-    /// Whether the row is one tree: a first bit that the last one closes, and not an earlier one.
+    /// Tests whether the row is one tree: its first bit is an open bit, and the matching close bit is its last bit.
     ///
     /// ```
     /// use vault::Tree;
@@ -185,16 +194,16 @@ impl Tree<'_> {
         words::one_tree(&self.words, self.bits as u64).expect(TESTED)
     }
 
-    /// Whether the nodes are those that a build writes, so that every answer is what the row says.
+    /// Tests whether the node buffer begins with exactly the entries that a build writes. If so, every answer is correct.
     pub fn is_as_built(&self) -> bool {
         ask!(self.as_built()).expect(TESTED)
     }
 }
 
-/// Why the two tests do not refuse.
-const TESTED: &str = "the row and the nodes had room when the tree was made";
+/// The panic text of calls that cannot refuse, because the constructors make the same tests.
+const TESTED: &str = "the constructor of the tree tested its words and its node buffer";
 
-/// A call over a tree's row and nodes.
+/// Calls a function of [`words`] on the row and the node buffer of a tree.
 macro_rules! ask {
     ($tree:ident.$call:ident($($arg:expr),*)) => {
         words::$call(&$tree.words, $tree.bits as u64, &$tree.nodes, $tree.block as u64, $($arg),*)
@@ -202,7 +211,7 @@ macro_rules! ask {
 }
 use ask;
 
-/// A position as an index: both have 64 bits.
+/// Converts an answered position to an index. Both types have 64 bits.
 #[inline]
 fn place(answer: Result<Option<u64>, Refusal>) -> Result<Option<usize>, Refusal> {
     answer.map(|found| found.map(|at| at as usize))

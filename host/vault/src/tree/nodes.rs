@@ -1,51 +1,53 @@
 use super::{ask, place, Tree, TESTED};
 use crate::{words, Children, Refusal};
 
-/// Calls on nodes.
+/// Calls on outline nodes. Arguments and answers are handles.
 impl<'a> Tree<'a> {
-    /// The handle 0, unless there are no bits.
+    /// Returns the root, which has the handle 0, or `None` if the row has no bits. Bit 0 is not tested.
     #[inline]
     pub fn root(&self) -> Option<usize> {
         place(words::root(&self.words, self.bits as u64)).expect(TESTED)
     }
 
-    /// The node that encloses a node.
+    /// Returns the outline node directly around `node`.
     #[inline]
     pub fn parent(&self, node: usize) -> Result<Option<usize>, Refusal> {
         place(ask!(self.parent(node as u64)))
     }
 
-    /// The first child of a node.
+    /// Returns the first child of `node`.
     #[inline]
     pub fn first_child(&self, node: usize) -> Result<Option<usize>, Refusal> {
         place(words::first_child(&self.words, self.bits as u64, node as u64))
     }
 
-    /// The last child of a node.
+    /// Returns the last child of `node`.
     #[inline]
     pub fn last_child(&self, node: usize) -> Result<Option<usize>, Refusal> {
         place(ask!(self.last_child(node as u64)))
     }
 
-    /// The next child of a node's parent.
+    /// Returns the next child of the same parent.
     #[inline]
     pub fn next_sibling(&self, node: usize) -> Result<Option<usize>, Refusal> {
         place(ask!(self.next_sibling(node as u64)))
     }
 
-    /// The child of a node's parent before it.
+    /// Returns the previous child of the same parent.
     #[inline]
     pub fn previous_sibling(&self, node: usize) -> Result<Option<usize>, Refusal> {
         place(ask!(self.previous_sibling(node as u64)))
     }
 
-    /// Whether a node has no children.
+    /// Tests whether `node` has no child: the next bit exists and is a close bit.
     #[inline]
     pub fn is_leaf(&self, node: usize) -> Result<bool, Refusal> {
         words::is_leaf(&self.words, self.bits as u64, node as u64)
     }
 
-    /// Whether `ancestor` encloses `descendant` or is it; nothing where `ancestor` never closes.
+    /// Tests whether the outline node `ancestor` contains `descendant` or is the same one.
+    ///
+    /// Returns `None` if `ancestor` has no matching close bit.
     ///
     /// ```
     /// use vault::Tree;
@@ -62,7 +64,7 @@ impl<'a> Tree<'a> {
         ask!(self.is_ancestor(ancestor as u64, descendant as u64))
     }
 
-    /// The children of a node, from the first to the last.
+    /// Returns an iterator over the children of `node`, from the first to the last.
     ///
     /// ```
     /// use vault::{Refusal, Tree};
@@ -77,7 +79,7 @@ impl<'a> Tree<'a> {
         Children::rising(self, node)
     }
 
-    /// The children of a node, from the last to the first.
+    /// Returns an iterator over the children of `node`, from the last to the first.
     ///
     /// ```
     /// use vault::Tree;

@@ -1,9 +1,9 @@
 use super::{ask, place, Tree};
 use crate::{words, Refusal};
 
-/// Calls on positions.
+/// Calls on positions. `E(k)` is the excess: open bits minus close bits among the first `k` bits.
 impl Tree<'_> {
-    /// The least j past `at` after which the excess is `r` more than after `at`. The excess is the opens less the closes so far.
+    /// Returns the least position `j > at` with `E(j + 1) = E(at + 1) + r`.
     ///
     /// ```
     /// use vault::Tree;
@@ -19,7 +19,7 @@ impl Tree<'_> {
         place(ask!(self.fwd_search(at as u64, r)))
     }
 
-    /// The greatest j before `at` before which the excess is `r` more than before `at`.
+    /// Returns the greatest position `j < at` with `E(j) = E(at) + r`.
     ///
     /// ```
     /// use vault::Tree;
@@ -34,19 +34,21 @@ impl Tree<'_> {
         place(ask!(self.bwd_search(at as u64, r)))
     }
 
-    /// Where what opens at `at` closes.
+    /// Returns the position of the close bit that matches the open bit at `at`: `fwd_search(at, -1)`.
     #[inline]
     pub fn close(&self, at: usize) -> Result<Option<usize>, Refusal> {
         place(ask!(self.close(at as u64)))
     }
 
-    /// Where what closes at `at` opens.
+    /// Returns the position of the open bit that matches the close bit at `at`: `bwd_search(at, -1)`.
     #[inline]
     pub fn open(&self, at: usize) -> Result<Option<usize>, Refusal> {
         place(ask!(self.open(at as u64)))
     }
 
-    /// Where what encloses `at` opens, whether `at` opens or closes.
+    /// Returns the innermost outline node around the pair of parentheses that has a bit at `at`.
+    ///
+    /// It is `bwd_search(at, -1)` at an open bit and `bwd_search(at, -2)` at a close bit.
     ///
     /// ```
     /// use vault::Tree;

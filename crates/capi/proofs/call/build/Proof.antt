@@ -7,13 +7,13 @@ use lib.Seq.{length-take-le}
 use mir.Syntax.{w64}
 use mir.ValLaws.{toZ-ofZ}
 use Rattle.row.specs.declared.gate.Gate.{Gate}
-use Rattle.row.specs.declared.gate.Gate.the-variants.{Open}
+use Rattle.row.specs.declared.gate.Gate.the-variants.{Pass}
 use Rattle.row.specs.Answer.{at, paperBuilt}
 use Rattle.row.specs.Gates.{through}
-use Rattle.layout.specs.Layout.{nodesGate}
-use Rattle.layout.proofs.Admitted.{gate-fine}
+use Rattle.mmt_layout.specs.Layout.{nodesGate}
+use Rattle.mmt_layout.proofs.Admitted.{gate-fine}
 use Rattle.wire.specs.Answer.{wireOf}
-use Rattle.capi.proofs.Passed.{built-open, bytes-open, bytes-shut}
+use Rattle.capi.proofs.Passed.{built-passed, bytes-passed, bytes-refused}
 use borrow.Author.Needs.{needs}
 use Rattle.capi.proofs.call.build.Statement.{statement}
 use Rattle.capi.proofs.call.build.Tie as tie
@@ -32,8 +32,8 @@ gate c =
     nodesGate (length (a .words .now)) (a .n) (length (a .numbers .now)) (a .block)
 
 -- in the arm that writes, they are passed
-passed : (c : tie.After-enum-told) → gate (built c) ≡ Open
-passed c = built-open _ (sym (ap paperBuilt (c .enum-told .given .1)) ∙ built c .build .ensures .0)
+passed : (c : tie.After-enum-told) → gate (built c) ≡ Pass
+passed c = built-passed _ (sym (ap paperBuilt (c .enum-told .given .1)) ∙ built c .build .ensures .0)
 
 -- and there are as many numbers as are written
 enough : (c : tie.After-node-numbers) → c .node-numbers .result ≤ length (built (c .before) .build .last .1 .1 .0)
@@ -75,7 +75,7 @@ returns : tie.Need-returns
 returns c =
     let k = c .before .before in
     let e = sym (ap paperBuilt (k .k .given .1)) ∙ k .before .before .before .build .ensures .0 in
-    (toZ-ofZ w64 _ (record { sfits = c .refused .ok }) ∙ c .refused .ensures ∙ ap wireOf e, bytes-shut _ _ _ _ _ _ e)
+    (toZ-ofZ w64 _ (record { sfits = c .refused .ok }) ∙ c .refused .ensures ∙ ap wireOf e, bytes-refused _ _ _ _ _ _ e)
 
 same-length-2 : tie.Need-same-length-2
 same-length-2 c = search needs
@@ -90,7 +90,7 @@ returns-2 c =
     let b = built (e .before) in
     let g = passed (e .before) in (
       ap (λ x. wireOf (through x (at 0))) (sym g),
-      w .write-numbers .ensures ∙ bytes-open _ _ _ _ _ _ _ _ refl g (b .build .ensures .1) (e .node-numbers .ensures),
+      w .write-numbers .ensures ∙ bytes-passed _ _ _ _ _ _ _ _ refl g (b .build .ensures .1) (e .node-numbers .ensures),
     )
 
 pub build-spec : {M : Type 1} → statement M

@@ -1,6 +1,6 @@
 -- `capi::node_numbers` meets its contract. Assumes nothing.
 use native.Mathlib.Omega.{arith}
-use Rattle.layout.proofs.Admitted.{count-small}
+use Rattle.mmt_layout.proofs.Admitted.{count-small}
 use borrow.Author.Needs.{needs}
 use Rattle.capi.proofs.call.node_numbers.Statement.{statement}
 use Rattle.capi.proofs.call.node_numbers.Tie as tie

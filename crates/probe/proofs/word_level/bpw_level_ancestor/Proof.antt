@@ -1,7 +1,7 @@
 -- `probe::bpw_level_ancestor` meets its contract: it is the one call, and its answer crosses. Assumes nothing.
 use borrow.Author.Needs.{needs}
-use Rattle.demands.specs.Questions.{levelAncestor}
-use Rattle.asking.proofs.Small.{answer-small, small-as, crossed}
+use Rattle.bp_spec.specs.declared.question.Question.the-variants.{LevelAncestor}
+use Rattle.c_dispatch.proofs.Small.{answer-small, small-as, crossed}
 use Rattle.probe.proofs.word_level.bpw_level_ancestor.Statement.{statement}
 use Rattle.probe.proofs.word_level.bpw_level_ancestor.Tie as tie
 
@@ -9,7 +9,7 @@ level-ancestor-requires : tie.Need-level-ancestor-requires
 level-ancestor-requires c κs = search needs
 
 found-requires : tie.Need-found-requires
-found-requires c κs = small-as (c .level-ancestor .ensures .0) (answer-small _ _ _ _ (levelAncestor _ _))
+found-requires c κs = small-as (c .level-ancestor .ensures .0) (answer-small _ _ _ _ (LevelAncestor _ _))
 
 returns : tie.Need-returns
 returns c = crossed (record { sfits = c .found .ok }) (c .found .ensures) (c .before .level-ancestor .ensures .0)

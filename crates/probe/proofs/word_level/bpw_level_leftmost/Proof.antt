@@ -1,7 +1,7 @@
 -- `probe::bpw_level_leftmost` meets its contract: it is the one call, and its answer crosses. Assumes nothing.
 use borrow.Author.Needs.{needs}
-use Rattle.demands.specs.Questions.{levelLeftmost}
-use Rattle.asking.proofs.Small.{answer-small, small-as, crossed}
+use Rattle.bp_spec.specs.declared.question.Question.the-variants.{LevelLeftmost}
+use Rattle.c_dispatch.proofs.Small.{answer-small, small-as, crossed}
 use Rattle.probe.proofs.word_level.bpw_level_leftmost.Statement.{statement}
 use Rattle.probe.proofs.word_level.bpw_level_leftmost.Tie as tie
 
@@ -9,7 +9,7 @@ level-leftmost-requires : tie.Need-level-leftmost-requires
 level-leftmost-requires c κs = search needs
 
 found-requires : tie.Need-found-requires
-found-requires c κs = small-as (c .level-leftmost .ensures .0) (answer-small _ _ _ _ (levelLeftmost _))
+found-requires c κs = small-as (c .level-leftmost .ensures .0) (answer-small _ _ _ _ (LevelLeftmost _))
 
 returns : tie.Need-returns
 returns c = crossed (record { sfits = c .found .ok }) (c .found .ensures) (c .before .level-leftmost .ensures .0)

@@ -1,7 +1,7 @@
 -- `probe::bpw_level_next` meets its contract: it is the one call, and its answer crosses. Assumes nothing.
 use borrow.Author.Needs.{needs}
-use Rattle.demands.specs.Questions.{levelNext}
-use Rattle.asking.proofs.Small.{answer-small, small-as, crossed}
+use Rattle.bp_spec.specs.declared.question.Question.the-variants.{LevelNext}
+use Rattle.c_dispatch.proofs.Small.{answer-small, small-as, crossed}
 use Rattle.probe.proofs.word_level.bpw_level_next.Statement.{statement}
 use Rattle.probe.proofs.word_level.bpw_level_next.Tie as tie
 
@@ -9,7 +9,7 @@ level-next-requires : tie.Need-level-next-requires
 level-next-requires c κs = search needs
 
 found-requires : tie.Need-found-requires
-found-requires c κs = small-as (c .level-next .ensures .0) (answer-small _ _ _ _ (levelNext _))
+found-requires c κs = small-as (c .level-next .ensures .0) (answer-small _ _ _ _ (LevelNext _))
 
 returns : tie.Need-returns
 returns c = crossed (record { sfits = c .found .ok }) (c .found .ensures) (c .before .level-next .ensures .0)

@@ -1,7 +1,7 @@
 -- `probe::bpw_level_prev` meets its contract: it is the one call, and its answer crosses. Assumes nothing.
 use borrow.Author.Needs.{needs}
-use Rattle.demands.specs.Questions.{levelPrev}
-use Rattle.asking.proofs.Small.{answer-small, small-as, crossed}
+use Rattle.bp_spec.specs.declared.question.Question.the-variants.{LevelPrev}
+use Rattle.c_dispatch.proofs.Small.{answer-small, small-as, crossed}
 use Rattle.probe.proofs.word_level.bpw_level_prev.Statement.{statement}
 use Rattle.probe.proofs.word_level.bpw_level_prev.Tie as tie
 
@@ -9,7 +9,7 @@ level-prev-requires : tie.Need-level-prev-requires
 level-prev-requires c κs = search needs
 
 found-requires : tie.Need-found-requires
-found-requires c κs = small-as (c .level-prev .ensures .0) (answer-small _ _ _ _ (levelPrev _))
+found-requires c κs = small-as (c .level-prev .ensures .0) (answer-small _ _ _ _ (LevelPrev _))
 
 returns : tie.Need-returns
 returns c = crossed (record { sfits = c .found .ok }) (c .found .ensures) (c .before .level-prev .ensures .0)

@@ -1,7 +1,7 @@
 -- `probe::bpw_level_rightmost` meets its contract: it is the one call, and its answer crosses. Assumes nothing.
 use borrow.Author.Needs.{needs}
-use Rattle.demands.specs.Questions.{levelRightmost}
-use Rattle.asking.proofs.Small.{answer-small, small-as, crossed}
+use Rattle.bp_spec.specs.declared.question.Question.the-variants.{LevelRightmost}
+use Rattle.c_dispatch.proofs.Small.{answer-small, small-as, crossed}
 use Rattle.probe.proofs.word_level.bpw_level_rightmost.Statement.{statement}
 use Rattle.probe.proofs.word_level.bpw_level_rightmost.Tie as tie
 
@@ -9,7 +9,7 @@ level-rightmost-requires : tie.Need-level-rightmost-requires
 level-rightmost-requires c κs = search needs
 
 found-requires : tie.Need-found-requires
-found-requires c κs = small-as (c .level-rightmost .ensures .0) (answer-small _ _ _ _ (levelRightmost _))
+found-requires c κs = small-as (c .level-rightmost .ensures .0) (answer-small _ _ _ _ (LevelRightmost _))
 
 returns : tie.Need-returns
 returns c = crossed (record { sfits = c .found .ok }) (c .found .ensures) (c .before .level-rightmost .ensures .0)

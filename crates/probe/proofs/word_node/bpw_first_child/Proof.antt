@@ -1,8 +1,8 @@
 -- `probe::bpw_first_child` meets its contract: it is the one call, and its answer crosses. Assumes nothing.
 use mathlib.Core.List.{[]}
 use borrow.Author.Needs.{needs}
-use Rattle.demands.specs.Questions.{firstChild}
-use Rattle.asking.proofs.Small.{answer-small, small-as, crossed}
+use Rattle.bp_spec.specs.declared.question.Question.the-variants.{FirstChild}
+use Rattle.c_dispatch.proofs.Small.{answer-small, small-as, crossed}
 use Rattle.probe.proofs.word_node.bpw_first_child.Statement.{statement}
 use Rattle.probe.proofs.word_node.bpw_first_child.Tie as tie
 
@@ -10,7 +10,7 @@ first-child-requires : tie.Need-first-child-requires
 first-child-requires c κs = search needs
 
 found-requires : tie.Need-found-requires
-found-requires c κs = small-as (c .first-child .ensures) (answer-small _ _ [] 0 (firstChild _))
+found-requires c κs = small-as (c .first-child .ensures) (answer-small _ _ [] 0 (FirstChild _))
 
 returns : tie.Need-returns
 returns c = crossed (record { sfits = c .found .ok }) (c .found .ensures) (c .before .first-child .ensures)

@@ -1,7 +1,7 @@
 -- `probe::bpw_last_child` meets its contract: it is the one call, and its answer crosses. Assumes nothing.
 use borrow.Author.Needs.{needs}
-use Rattle.demands.specs.Questions.{lastChild}
-use Rattle.asking.proofs.Small.{answer-small, small-as, crossed}
+use Rattle.bp_spec.specs.declared.question.Question.the-variants.{LastChild}
+use Rattle.c_dispatch.proofs.Small.{answer-small, small-as, crossed}
 use Rattle.probe.proofs.word_node.bpw_last_child.Statement.{statement}
 use Rattle.probe.proofs.word_node.bpw_last_child.Tie as tie
 
@@ -9,7 +9,7 @@ last-child-requires : tie.Need-last-child-requires
 last-child-requires c κs = search needs
 
 found-requires : tie.Need-found-requires
-found-requires c κs = small-as (c .last-child .ensures .0) (answer-small _ _ _ _ (lastChild _))
+found-requires c κs = small-as (c .last-child .ensures .0) (answer-small _ _ _ _ (LastChild _))
 
 returns : tie.Need-returns
 returns c = crossed (record { sfits = c .found .ok }) (c .found .ensures) (c .before .last-child .ensures .0)

@@ -1,7 +1,7 @@
 -- `probe::bpw_next_sibling` meets its contract: it is the one call, and its answer crosses. Assumes nothing.
 use borrow.Author.Needs.{needs}
-use Rattle.demands.specs.Questions.{nextSibling}
-use Rattle.asking.proofs.Small.{answer-small, small-as, crossed}
+use Rattle.bp_spec.specs.declared.question.Question.the-variants.{NextSibling}
+use Rattle.c_dispatch.proofs.Small.{answer-small, small-as, crossed}
 use Rattle.probe.proofs.word_node.bpw_next_sibling.Statement.{statement}
 use Rattle.probe.proofs.word_node.bpw_next_sibling.Tie as tie
 
@@ -9,7 +9,7 @@ next-sibling-requires : tie.Need-next-sibling-requires
 next-sibling-requires c κs = search needs
 
 found-requires : tie.Need-found-requires
-found-requires c κs = small-as (c .next-sibling .ensures .0) (answer-small _ _ _ _ (nextSibling _))
+found-requires c κs = small-as (c .next-sibling .ensures .0) (answer-small _ _ _ _ (NextSibling _))
 
 returns : tie.Need-returns
 returns c = crossed (record { sfits = c .found .ok }) (c .found .ensures) (c .before .next-sibling .ensures .0)

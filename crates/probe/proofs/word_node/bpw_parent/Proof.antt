@@ -1,7 +1,7 @@
 -- `probe::bpw_parent` meets its contract: it is the one call, and its answer crosses. Assumes nothing.
 use borrow.Author.Needs.{needs}
-use Rattle.demands.specs.Questions.{parent}
-use Rattle.asking.proofs.Small.{answer-small, small-as, crossed}
+use Rattle.bp_spec.specs.declared.question.Question.the-variants.{Parent}
+use Rattle.c_dispatch.proofs.Small.{answer-small, small-as, crossed}
 use Rattle.probe.proofs.word_node.bpw_parent.Statement.{statement}
 use Rattle.probe.proofs.word_node.bpw_parent.Tie as tie
 
@@ -9,7 +9,7 @@ parent-requires : tie.Need-parent-requires
 parent-requires c κs = search needs
 
 found-requires : tie.Need-found-requires
-found-requires c κs = small-as (c .parent .ensures .0) (answer-small _ _ _ _ (parent _))
+found-requires c κs = small-as (c .parent .ensures .0) (answer-small _ _ _ _ (Parent _))
 
 returns : tie.Need-returns
 returns c = crossed (record { sfits = c .found .ok }) (c .found .ensures) (c .before .parent .ensures .0)

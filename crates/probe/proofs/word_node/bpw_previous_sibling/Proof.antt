@@ -1,7 +1,7 @@
 -- `probe::bpw_previous_sibling` meets its contract: it is the one call, and its answer crosses. Assumes nothing.
 use borrow.Author.Needs.{needs}
-use Rattle.demands.specs.Questions.{previousSibling}
-use Rattle.asking.proofs.Small.{answer-small, small-as, crossed}
+use Rattle.bp_spec.specs.declared.question.Question.the-variants.{PreviousSibling}
+use Rattle.c_dispatch.proofs.Small.{answer-small, small-as, crossed}
 use Rattle.probe.proofs.word_node.bpw_previous_sibling.Statement.{statement}
 use Rattle.probe.proofs.word_node.bpw_previous_sibling.Tie as tie
 
@@ -9,7 +9,7 @@ previous-sibling-requires : tie.Need-previous-sibling-requires
 previous-sibling-requires c κs = search needs
 
 found-requires : tie.Need-found-requires
-found-requires c κs = small-as (c .previous-sibling .ensures .0) (answer-small _ _ _ _ (previousSibling _))
+found-requires c κs = small-as (c .previous-sibling .ensures .0) (answer-small _ _ _ _ (PreviousSibling _))
 
 returns : tie.Need-returns
 returns c = crossed (record { sfits = c .found .ok }) (c .found .ensures) (c .before .previous-sibling .ensures .0)

@@ -1,8 +1,8 @@
 -- `probe::bpw_root` meets its contract: it is the one call, and its answer crosses. Assumes nothing.
 use mathlib.Core.List.{[]}
 use borrow.Author.Needs.{needs}
-use Rattle.demands.specs.Questions.{root}
-use Rattle.asking.proofs.Small.{answer-small, small-as, crossed}
+use Rattle.bp_spec.specs.declared.question.Question.the-variants.{Root}
+use Rattle.c_dispatch.proofs.Small.{answer-small, small-as, crossed}
 use Rattle.probe.proofs.word_node.bpw_root.Statement.{statement}
 use Rattle.probe.proofs.word_node.bpw_root.Tie as tie
 
@@ -10,7 +10,7 @@ root-requires : tie.Need-root-requires
 root-requires c κs = search needs
 
 found-requires : tie.Need-found-requires
-found-requires c κs = small-as (c .root .ensures) (answer-small (c .before .before .args .words .now) _ [] 0 root)
+found-requires c κs = small-as (c .root .ensures) (answer-small (c .before .before .args .words .now) _ [] 0 Root)
 
 returns : tie.Need-returns
 returns c = crossed (record { sfits = c .found .ok }) (c .found .ensures) (c .before .root .ensures)

@@ -1,6 +1,6 @@
 -- `probe::bpw_build` meets its contract: it is the one call, and its answer crosses. Assumes nothing.
 use borrow.Author.Needs.{needs}
-use Rattle.asking.proofs.Small.{crossed}
+use Rattle.c_dispatch.proofs.Small.{crossed}
 use Rattle.probe.proofs.word_search.bpw_build.Statement.{statement}
 use Rattle.probe.proofs.word_search.bpw_build.Tie as tie
 

@@ -1,7 +1,7 @@
 -- `probe::bpw_close` meets its contract: it is the one call, and its answer crosses. Assumes nothing.
 use borrow.Author.Needs.{needs}
-use Rattle.demands.specs.Questions.{closeOf}
-use Rattle.asking.proofs.Small.{answer-small, small-as, crossed}
+use Rattle.bp_spec.specs.declared.question.Question.the-variants.{Close}
+use Rattle.c_dispatch.proofs.Small.{answer-small, small-as, crossed}
 use Rattle.probe.proofs.word_search.bpw_close.Statement.{statement}
 use Rattle.probe.proofs.word_search.bpw_close.Tie as tie
 
@@ -9,7 +9,7 @@ close-requires : tie.Need-close-requires
 close-requires c κs = search needs
 
 found-requires : tie.Need-found-requires
-found-requires c κs = small-as (c .close .ensures .0) (answer-small _ _ _ _ (closeOf _))
+found-requires c κs = small-as (c .close .ensures .0) (answer-small _ _ _ _ (Close _))
 
 returns : tie.Need-returns
 returns c = crossed (record { sfits = c .found .ok }) (c .found .ensures) (c .before .close .ensures .0)

@@ -1,7 +1,7 @@
 -- `probe::bpw_enclose` meets its contract: it is the one call, and its answer crosses. Assumes nothing.
 use borrow.Author.Needs.{needs}
-use Rattle.demands.specs.Questions.{enclose}
-use Rattle.asking.proofs.Small.{answer-small, small-as, crossed}
+use Rattle.bp_spec.specs.declared.question.Question.the-variants.{Enclose}
+use Rattle.c_dispatch.proofs.Small.{answer-small, small-as, crossed}
 use Rattle.probe.proofs.word_search.bpw_enclose.Statement.{statement}
 use Rattle.probe.proofs.word_search.bpw_enclose.Tie as tie
 
@@ -9,7 +9,7 @@ enclose-requires : tie.Need-enclose-requires
 enclose-requires c κs = search needs
 
 found-requires : tie.Need-found-requires
-found-requires c κs = small-as (c .enclose .ensures .0) (answer-small _ _ _ _ (enclose _))
+found-requires c κs = small-as (c .enclose .ensures .0) (answer-small _ _ _ _ (Enclose _))
 
 returns : tie.Need-returns
 returns c = crossed (record { sfits = c .found .ok }) (c .found .ensures) (c .before .enclose .ensures .0)

@@ -1,9 +1,9 @@
 -- `probe::bpw_fwd_search` meets its contract: it is the one call, and its answer crosses. Assumes nothing.
 use borrow.Author.Needs.{needs}
-use Rattle.demands.specs.Questions.{fwdSearch}
+use Rattle.bp_spec.specs.declared.question.Question.the-variants.{FwdSearch}
 use mir.Syntax.{w64}
 use mir.ValLaws.{toZ-ofZ}
-use Rattle.asking.proofs.Small.{answer-small, small-as, crossed}
+use Rattle.c_dispatch.proofs.Small.{answer-small, small-as, crossed}
 use Rattle.probe.proofs.word_search.bpw_fwd_search.Statement.{statement}
 use Rattle.probe.proofs.word_search.bpw_fwd_search.Tie as tie
 
@@ -13,7 +13,7 @@ fwd-search-requires c κs = search needs
 found-requires : tie.Need-found-requires
 found-requires c κs =
     small-as (rw (toZ-ofZ w64 _ (c .before .before .fits .r)) at (c .fwd-search .ensures .0))
-    (answer-small _ _ _ _ (fwdSearch _ _))
+    (answer-small _ _ _ _ (FwdSearch _ _))
 
 returns : tie.Need-returns
 returns c =

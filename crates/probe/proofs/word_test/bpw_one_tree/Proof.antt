@@ -1,6 +1,6 @@
 -- `probe::bpw_one_tree` meets its contract: it is the one call, and its answer crosses. Assumes nothing.
 use borrow.Author.Needs.{needs}
-use Rattle.asking.proofs.Small.{crossed}
+use Rattle.c_dispatch.proofs.Small.{crossed}
 use Rattle.probe.proofs.word_test.bpw_one_tree.Statement.{statement}
 use Rattle.probe.proofs.word_test.bpw_one_tree.Tie as tie
 

@@ -1,6 +1,6 @@
 -- `probe::bpw_read_text` meets its contract: it is the one call, and its answer crosses. Assumes nothing.
 use borrow.Author.Needs.{needs}
-use Rattle.asking.proofs.Small.{read-small, small-as, crossed}
+use Rattle.c_dispatch.proofs.Small.{read-small, small-as, crossed}
 use Rattle.probe.proofs.word_test.bpw_read_text.Statement.{statement}
 use Rattle.probe.proofs.word_test.bpw_read_text.Tie as tie
 

@@ -2,7 +2,7 @@
 use mathlib.Core.Path.{sym, _∙_}
 use borrow.Author.Needs.{needs}
 use native.Mathlib.Omega.{arith}
-use Rattle.row.proofs.Gates.{handle-past, handle-shut, handle-open}
+use Rattle.row.proofs.Gates.{handle-past, handle-refused, handle-passed}
 use Rattle.row.proofs.gate.admit_handle.Statement.{statement}
 use Rattle.row.proofs.gate.admit_handle.Tie as tie
 
@@ -13,10 +13,10 @@ opens-at-requires : tie.Need-opens-at-requires
 opens-at-requires c κs = search needs
 
 returns-2 : tie.Need-returns-2
-returns-2 c = handle-open _ _ _ (omega arith) (sym (c .before .opens-at .ensures) ∙ c .if2 .taken)
+returns-2 c = handle-passed _ _ _ (omega arith) (sym (c .before .opens-at .ensures) ∙ c .if2 .taken)
 
 returns-3 : tie.Need-returns-3
-returns-3 c = handle-shut _ _ _ (omega arith) (sym (c .before .opens-at .ensures) ∙ c .if2 .left)
+returns-3 c = handle-refused _ _ _ (omega arith) (sym (c .before .opens-at .ensures) ∙ c .if2 .left)
 
 pub admit-handle-spec : {M : Type 1} → statement M
 admit-handle-spec = tie.close (tie.spec returns opens-at-requires returns-2 returns-3)

@@ -1,7 +1,7 @@
 -- `row::admit_row` meets its contract: each return by the tests that led there. Assumes nothing.
 use borrow.Author.Needs.{needs}
 use native.Mathlib.Omega.{arith}
-use Rattle.row.proofs.Gates.{row-many, row-few, row-open}
+use Rattle.row.proofs.Gates.{row-many, row-few, row-passed}
 use Rattle.row.proofs.gate.admit_row.Statement.{statement}
 use Rattle.row.proofs.gate.admit_row.Tie as tie
 
@@ -15,7 +15,7 @@ returns-2 : tie.Need-returns-2
 returns-2 c = row-few _ _ (omega arith) (omega arith)
 
 returns-3 : tie.Need-returns-3
-returns-3 c = row-open _ _ (omega arith) (omega arith)
+returns-3 c = row-passed _ _ (omega arith) (omega arith)
 
 pub admit-row-spec : {M : Type 1} → statement M
 admit-row-spec = tie.close (tie.spec returns words-for-requires returns-2 returns-3)

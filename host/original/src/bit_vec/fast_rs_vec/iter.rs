@@ -1,4 +1,5 @@
-//! Supplied: the positions of a vector's zeros or ones, by a plain scan. The iterators over all nodes ask for them.
+//! Replacement: iterators over the positions of the zeros or ones of a vector, by a plain scan. The original's iterators over
+//! all nodes of a tree use them.
 
 use super::RsVec;
 

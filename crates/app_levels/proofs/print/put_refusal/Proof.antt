@@ -1,0 +1,31 @@
+-- `outline::print::put_refusal` meets its contract: one text behind the other. Assumes nothing.
+use mathlib.Core.Path.{_≡_}
+use mathlib.Core.List.{[], _∷_}
+use lib.ListN.{length}
+use Rattle.row.specs.Answer.{numberOf}
+use Rattle.app_page.proofs.Pages.{adds-then}
+use Rattle.app_levels.specs.Shown.{refusedText}
+use native.Mathlib.Omega.{arith}
+use borrow.Author.Needs.{needs}
+use Rattle.app_levels.proofs.print.put_refusal.Statement.{statement}
+use Rattle.app_levels.proofs.print.put_refusal.Tie as tie
+
+put-refused-requires : tie.Need-put-refused-requires
+put-refused-requires c κs = search needs
+
+put-requires : tie.Need-put-requires
+put-requires c κs = search needs
+
+same-length : tie.Need-same-length
+same-length c = search needs
+
+returns : tie.Need-returns
+returns c =
+    let p = c .before .before in
+    let o = p .before .before .before .before in
+    let a = o .before .before .before .args in
+    let e : length (o .put-refused .last .0) ≡ length (a .page .now) = omega arith in
+    adds-then (a .page .now) (o .put-refused .last .0) (p .put .last .0) (refusedText (numberOf (a .k))) (10 ∷ []) _ _ _ e (o .put-refused .ensures) (p .put .ensures)
+
+pub put-refusal-spec : {M : Type 1} → statement M
+put-refusal-spec = tie.close (tie.spec put-refused-requires put-requires same-length returns)

@@ -1,0 +1,59 @@
+-- `line::line_end` meets its contract. The loop's invariant: the line ends as far behind i as its rest from i on does. The
+-- measure is what is left of the length. Assumes nothing.
+use mathlib.Core.Path.{_≡_}
+use Prim.Native.Nat.{_+_, _-_, _≤_}
+use native.Mathlib.Omega.{arith}
+use borrow.Author.Needs.{needs}
+use lib.ListN.{length, drop}
+use Rattle.io.proofs.Counting.{counts}
+use Rattle.app_line.specs.Input.{lineEnd}
+use Rattle.app_line.proofs.Line.{end-here, end-on, end-done}
+use Rattle.app_line.proofs.line_end.Statement.{statement}
+use Rattle.app_line.proofs.line_end.Tie as tie
+
+abbrev Inv-loop : tie.InvT-loop
+Inv-loop bytes i₀ i = (i ≤ length bytes) × (i + lineEnd (drop i bytes) ≡ lineEnd bytes)
+
+abbrev μ-loop : tie.MeasureT-loop
+μ-loop bytes i₀ i = length bytes - i
+
+loop-holds : tie.Need-loop-holds Inv-loop μ-loop
+loop-holds c = search needs
+
+shared-slice-read-if1 : tie.Need-shared-slice-read-if1 Inv-loop μ-loop
+shared-slice-read-if1 c = search needs
+
+returns : tie.Need-returns Inv-loop μ-loop
+returns c =
+    let l = c .before .before .before in
+    (counts _ _ (omega arith), omega (arith, l .loop .inv .1, end-here (l .before .args .bytes .now) (l .loop .i) (omega arith) (c .if1 .taken)))
+
+add-i : tie.Need-add-i Inv-loop μ-loop
+add-i c = search needs
+
+loop-less : tie.Need-loop-less Inv-loop μ-loop
+loop-less c = search needs
+
+loop-again : tie.Need-loop-again Inv-loop μ-loop
+loop-again c =
+    let l = c .before .before .before in
+    (search needs, omega (arith, l .loop .inv .1, end-on (l .before .args .bytes .now) (l .loop .i) (omega arith) (c .if1 .left)))
+
+returns-2 : tie.Need-returns-2 Inv-loop μ-loop
+returns-2 c =
+    let l = c .before in
+    (counts _ _ (omega arith), omega (arith, l .loop .inv .1, end-done (l .before .args .bytes .now) (l .loop .i) (c .loop-test .left)))
+
+pub line-end-spec : {M : Type 1} → statement M
+line-end-spec =
+    tie.close
+    (tie.spec
+    Inv-loop
+    μ-loop
+    loop-holds
+    shared-slice-read-if1
+    returns
+    add-i
+    loop-less
+    loop-again
+    returns-2)

@@ -1,0 +1,42 @@
+-- `line::read_line` meets its contract: too long a line, or what the text reader answers. Assumes nothing.
+use mathlib.Core.Path.{_≡_, _∙_}
+use Prim.Native.Nat.{_≤_, _<_}
+use lib.ListN.{length}
+use Rattle.app_line.specs.Input.{lineEnd, line}
+use Rattle.app_line.proofs.Line.{line-many, words-many, line-read, words-read}
+use native.Mathlib.Omega.{arith}
+use borrow.Author.Needs.{needs}
+use Rattle.app_line.proofs.read_line.Statement.{statement}
+use Rattle.app_line.proofs.read_line.Tie as tie
+
+line-end-requires : tie.Need-line-end-requires
+line-end-requires c κs = search needs
+
+returns : tie.Need-returns
+returns c =
+    let e = c .before .line-end .ensures .1 in
+    let s = c .before .before .before .args .bytes .now in
+    let h : 4096 < lineEnd s = rw (← e) (c .if1 .taken) in
+    (line-many s h, words-many s (c .before .before .before .args .words .now) h)
+
+slice-aggregate-read-text : tie.Need-slice-aggregate-read-text
+slice-aggregate-read-text c = search needs
+
+read-text-requires : tie.Need-read-text-requires
+read-text-requires c κs = search needs
+
+returns-2 : tie.Need-returns-2
+returns-2 c =
+    let b = c .before .before .before .before in
+    let e = b .line-end .ensures .1 in
+    let s = b .before .before .args .bytes .now in
+    let ws = b .before .before .args .words .now in
+    let h : lineEnd s ≤ 4096 = rw (← e) (c .before .before .before .if1 .left) in
+    let l : length (line s) ≡ lineEnd s = cc (b .line-end .ensures .0 .1, e) in
+    let w : length ws ≡ 64 = omega arith in
+    (rw e at (c .read-text .ensures .0) ∙ line-read s ws h l w, rw e at (c .read-text .ensures .1) ∙ words-read s ws h)
+
+pub read-line-spec : {M : Type 1} → statement M
+read-line-spec =
+    tie.close
+    (tie.spec line-end-requires returns slice-aggregate-read-text read-text-requires returns-2)

@@ -1,0 +1,14 @@
+-- `page::filled` meets its contract. Assumes nothing.
+use Rattle.io.proofs.Counting.{counts}
+use native.Mathlib.Omega.{arith}
+use Rattle.app_page.proofs.filled.Statement.{statement}
+use Rattle.app_page.proofs.filled.Tie as tie
+
+returns : tie.Need-returns
+returns c = counts _ _ (omega arith)
+
+returns-2 : tie.Need-returns-2
+returns-2 c = counts _ _ (omega arith)
+
+pub filled-spec : {M : Type 1} → statement M
+filled-spec = tie.close (tie.spec returns returns-2)

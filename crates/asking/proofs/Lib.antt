@@ -1,4 +1,0 @@
-pub mod Small
-mod Reading
-pub mod Room
-pub mod Surplus

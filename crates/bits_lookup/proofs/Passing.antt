@@ -1,0 +1,30 @@
+-- A byte's total as the machine reads it back, and what passing the byte leaves of r.
+--   total-back: the total; less-fits, more-fits: what is left fits an i64
+-- Assumes nothing.
+use mathlib.Core.Path.{_≡_, ap, _∙_}
+use Prim.Native.Nat.{ℕ, _+_, _<_}
+use native.Mathlib.Omega.{arith}
+use lib.IntN.{ℤ, _+ℤ_, _-ℤ_}
+use mir.Syntax.{w64}
+use mir.Val.{SFits, toZ, ofZ}
+use mir.ValLaws.{toZ-ofZ}
+use Rattle.ints.specs.Sides.{size}
+use Rattle.ints.proofs.Linear.{plus-size, minus-size}
+use Rattle.ints.proofs.Shapes.{zsum}
+use Rattle.bits_stretch.specs.declared.summary.Summary.{Summary}
+use Rattle.bits_stretch.specs.Summary.{summaryOf}
+use Rattle.bits_stretch.proofs.Full.{summary-size}
+
+module _ (f : ℕ → ℕ) where
+  abbrev x : Summary
+  x = summaryOf f 0 8
+
+  pub total-back : (y : Summary) → y ≡ x → toZ w64 (ofZ w64 (y .total)) ≡ x .total
+  total-back y e = ap (λ (z : Summary). toZ w64 (ofZ w64 (z .total))) e ∙ toZ-ofZ w64 (x .total) (omega (zsum, summary-size f 0 8 .total))
+
+  module _ (r : ℤ) (room : size r + 64 < 9223372036854775808) where
+    pub less-fits : SFits w64 (r -ℤ x .total)
+    less-fits = let s = minus-size r (x .total) in let t = summary-size f 0 8 .total in let w : size (r -ℤ x .total) < 9223372036854775808 = omega arith in omega (zsum, w)
+
+    pub more-fits : SFits w64 (r +ℤ x .total)
+    more-fits = let s = plus-size r (x .total) in let t = summary-size f 0 8 .total in let w : size (r +ℤ x .total) < 9223372036854775808 = omega arith in omega (zsum, w)

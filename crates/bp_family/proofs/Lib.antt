@@ -1,0 +1,3 @@
+pub mod Ancestors
+pub mod TwoHandles
+pub mod Siblings

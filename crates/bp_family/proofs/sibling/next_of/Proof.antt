@@ -1,0 +1,61 @@
+-- `sibling::next_of` meets its contract: v closes at c, at none, or the walk refuses. Assumes nothing.
+use mathlib.Core.Path.{_≡_, _∙_}
+use Prim.Native.Nat.{_<_}
+use native.Mathlib.Omega.{arith}
+use borrow.Author.Needs.{needs}
+use lib.IntN.{negsuc}
+use Rattle.row.specs.Answer.{at}
+use Rattle.row.specs.Way.{forward}
+use Rattle.walk_spec.specs.Walk.{walk}
+use Rattle.walk_spec.proofs.Inside.{walk-after}
+use Rattle.bp_spec.proofs.HandleAnswers.{said}
+use Rattle.bp_family.proofs.Siblings.{next-at, next-nothing, next-refused}
+use Rattle.bp_family.proofs.sibling.next_of.Statement.{statement}
+use Rattle.bp_family.proofs.sibling.next_of.Tie as tie
+
+-- from the position where v closes back to the walk that found it, and from that to the entry
+abbrev walked : tie.After-known-told → tie.After-walk-fwd
+walked c = c .before .before .before
+
+abbrev entry : tie.After-walk-fwd → tie.Start
+entry c = c .before .before
+
+walk-fwd-requires : tie.Need-walk-fwd-requires
+walk-fwd-requires c κs = search needs
+
+enum-known-c : tie.Need-enum-known-c
+enum-known-c c = search needs
+
+-- v closes at a position of the row
+closes : (c : tie.After-known-told) → (let a = entry (walked c) .args in
+    walk forward (a .words .now) (a .n) (a .nodes .now) (a .block) (a .v) (negsuc 0) .answer ≡ at (c .before .c .given .0 .0))
+closes c = said (walked c .walk-fwd .ensures) (c .before .c .given .1)
+
+inside : (c : tie.After-known-told) → (let a = entry (walked c) .args in c .before .c .given .0 .0 < a .n)
+inside c =
+    let s = entry (walked c) in
+    let a = s .args in
+    walk-after (a .words .now) (a .n) (a .nodes .now) (a .block) (omega (arith, s .pre .eight)) (a .v) (negsuc 0) _ (closes c) .1
+
+handle-after-requires : tie.Need-handle-after-requires
+handle-after-requires c κs = (entry (walked c) .pre .words, inside c)
+
+enum-told : tie.Need-enum-told
+enum-told c = search needs
+
+enum-known-k : tie.Need-enum-known-k
+enum-known-k c = search needs
+
+returns : tie.Need-returns
+returns c = c .handle-after .ensures ∙ next-at _ _ _ _ _ (closes (c .before))
+
+returns-2 : tie.Need-returns-2
+returns-2 c = next-nothing _ _ _ _ (said (c .before .before .walk-fwd .ensures) (c .enum-told .given .1))
+
+returns-3 : tie.Need-returns-3
+returns-3 c = next-refused _ _ _ _ _ (said (c .before .before .before .walk-fwd .ensures) (c .before .k .given .1))
+
+pub next-of-spec : {M : Type 1} → statement M
+next-of-spec =
+    tie.close
+    (tie.spec walk-fwd-requires enum-known-c handle-after-requires enum-told enum-known-k returns returns-2 returns-3)

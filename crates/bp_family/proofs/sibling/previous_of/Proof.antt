@@ -1,0 +1,37 @@
+-- `sibling::previous_of` meets its contract: no bit before v, one that opens, one that closes. Assumes nothing.
+use mathlib.Core.Path.{sym, _∙_}
+use native.Mathlib.Omega.{arith}
+use borrow.Author.Needs.{needs}
+use Rattle.bp_handle.proofs.RowAnswers.{closes-not, closes-in}
+use Rattle.bp_family.proofs.Siblings.{previous-first, previous-none, previous-at}
+use Rattle.bp_family.proofs.sibling.previous_of.Statement.{statement}
+use Rattle.bp_family.proofs.sibling.previous_of.Tie as tie
+
+returns : tie.Need-returns
+returns c = previous-first _ _ _ _ (omega arith)
+
+sub-opens-at : tie.Need-sub-opens-at
+sub-opens-at c = search needs
+
+opens-at-requires : tie.Need-opens-at-requires
+opens-at-requires c κs = search needs
+
+returns-2 : tie.Need-returns-2
+returns-2 c = previous-none _ _ _ _ (omega arith) (closes-not _ _ _ (omega arith) (sym (c .before .opens-at .ensures) ∙ c .if2 .taken))
+
+sub-walk-bwd : tie.Need-sub-walk-bwd
+sub-walk-bwd c = search needs
+
+walk-bwd-requires : tie.Need-walk-bwd-requires
+walk-bwd-requires c κs = search needs
+
+returns-3 : tie.Need-returns-3
+returns-3 c =
+    let e = c .before in
+    c .walk-bwd .ensures
+    ∙ previous-at _ _ _ _ (omega arith) (closes-in _ _ _ (omega arith) (sym (e .before .opens-at .ensures) ∙ e .if2 .left))
+
+pub previous-of-spec : {M : Type 1} → statement M
+previous-of-spec =
+    tie.close
+    (tie.spec returns sub-opens-at opens-at-requires returns-2 sub-walk-bwd walk-bwd-requires returns-3)

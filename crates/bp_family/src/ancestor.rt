@@ -1,0 +1,71 @@
+// The calls that go outward from a node: its parent, and whether it lies within another. Refusals 1 to 5 in their order, and 8; each makes
+// one search.
+//
+// What the search answers is passed on as it stands, nothing and refusals too.
+ghost use mathlib.Core.Path.{_≡_};
+ghost use mathlib.Core.Bool.{_&&_};
+ghost use Prim.Native.Nat.{_<_};
+ghost use lib.Dec.{leb, ltb};
+ghost use lib.ListN.{length};
+ghost use Rattle.row.specs.Answer.{paperFound, paperTold};
+ghost use Rattle.row.specs.Gates.{andThen};
+ghost use Rattle.mmt_layout.specs.Layout.{nodesGate, Fine};
+ghost use Rattle.bp_spec.specs.RowCalls.{told};
+ghost use Rattle.bp_spec.specs.SearchCalls.{WhereBuilt};
+ghost use Rattle.bp_spec.specs.SearchPair.{walked};
+ghost use Rattle.bp_spec.specs.HandleCalls.{nodeAnswer, nodeDefined};
+ghost use Rattle.bp_spec.specs.AncestorCalls.{parent, isAncestor, bothGate, ancestorAnswer, ancestorDefined};
+use row::Found;
+use row::Gate;
+use row::Told;
+
+// enclose(v): a handle opens, so one level back.
+pub fn parent(words: &[u64], n: usize, nodes: &[i64], block: usize, v: usize) -> Found
+    ensures { λ a. ⌜ paperFound a ≡ nodeAnswer parent (now (words .entry)) n (now (nodes .entry)) block v ⌝ }
+    ensures { λ a. ⌜ WhereBuilt (now (words .entry)) n (now (nodes .entry)) block (paperFound a) (nodeDefined parent (now (words .entry)) n v) ⌝ }
+{
+    match bp_handle::admit_node(words, n, nodes, block, v) {
+        Gate::Refuse(k) => Found::Refused(k),
+        Gate::Pass => walk_code::walk_bwd(words, n, nodes, block, v, -1),
+    }
+}
+
+// Refusals 1 to 5, in their order, for the handles a and d.
+fn admit_both(words: &[u64], n: usize, nodes: &[i64], block: usize, a: usize, d: usize) -> Gate
+    ensures { λ g. ⌜ g ≡ andThen (nodesGate (length (now (words .entry))) n (length (now (nodes .entry))) block) (bothGate (now (words .entry)) n a d) ⌝ }
+{
+    match bp_handle::admit_node(words, n, nodes, block, a) {
+        Gate::Refuse(k) => Gate::Refuse(k),
+        Gate::Pass => row::admit_handle(words, n, d),
+    }
+}
+
+// Nothing if a has no close c; else whether a <= d and d < c. A node is its own ancestor here.
+pub fn is_ancestor(words: &[u64], n: usize, nodes: &[i64], block: usize, a: usize, d: usize) -> Told
+    ensures { λ t. ⌜ paperTold t ≡ ancestorAnswer (now (words .entry)) n (now (nodes .entry)) block a d ⌝ }
+    ensures { λ t. ⌜ WhereBuilt (now (words .entry)) n (now (nodes .entry)) block (paperTold t) (ancestorDefined (now (words .entry)) n a d) ⌝ }
+{
+    match admit_both(words, n, nodes, block, a, d) {
+        Gate::Refuse(k) => Told::Refused(k),
+        Gate::Pass => spans(words, n, nodes, block, a, d),
+    }
+}
+
+// The same, once the tests are passed.
+fn spans(words: &[u64], n: usize, nodes: &[i64], block: usize, a: usize, d: usize) -> Told
+    requires { ⌜ Fine (length (now words)) n (length (now nodes)) block ⌝ }
+    ensures { λ t. ⌜ paperTold t ≡ isAncestor (now (words .entry)) n (walked (now (words .entry)) n (now (nodes .entry)) block) a d ⌝ }
+{
+    match walk_code::walk_fwd(words, n, nodes, block, a, -1) {
+        Found::At(c) => within(a, d, c),
+        Found::Nothing => Told::Nothing,
+        Found::Refused(k) => Told::Refused(k),
+    }
+}
+
+// Whether d is at a or past it, and before c.
+fn within(a: usize, d: usize, c: usize) -> Told
+    ensures { λ t. ⌜ paperTold t ≡ told (leb a d && ltb d c) ⌝ }
+{
+    if a <= d && d < c { Told::Yes } else { Told::No }
+}

@@ -1,0 +1,91 @@
+// The calls that go from a node to its last child, to its next sibling and to the one before: refusals 1 to 5 in their order, and 8.
+//
+// What a search answers is passed on as it stands, nothing and refusals too. Over any node numbers it answers a position of the row,
+// forward one past its start: so neither one more nor one less wraps, and no test of that is made.
+ghost use mathlib.Core.Path.{_≡_};
+ghost use Prim.Native.Nat.{_<_};
+ghost use lib.ListN.{length};
+ghost use Rattle.row.specs.Answer.{paperFound};
+ghost use Rattle.mmt_layout.specs.Layout.{Fine};
+ghost use Rattle.bp_spec.specs.SearchCalls.{WhereBuilt};
+ghost use Rattle.bp_spec.specs.SearchPair.{walked};
+ghost use Rattle.bp_spec.specs.HandleCalls.{nodeAnswer, nodeDefined};
+ghost use Rattle.bp_spec.specs.SiblingCalls.{lastChild, nextSibling, previousSibling};
+use row::Found;
+use row::Gate;
+
+// If bit v + 1 opens and v closes at c: open(c - 1).
+pub fn last_child(words: &[u64], n: usize, nodes: &[i64], block: usize, v: usize) -> Found
+    ensures { λ a. ⌜ paperFound a ≡ nodeAnswer lastChild (now (words .entry)) n (now (nodes .entry)) block v ⌝ }
+    ensures { λ a. ⌜ WhereBuilt (now (words .entry)) n (now (nodes .entry)) block (paperFound a) (nodeDefined lastChild (now (words .entry)) n v) ⌝ }
+{
+    match bp_handle::admit_node(words, n, nodes, block, v) {
+        Gate::Refuse(k) => Found::Refused(k),
+        Gate::Pass => last_of(words, n, nodes, block, v),
+    }
+}
+
+// The same, once the tests are passed.
+fn last_of(words: &[u64], n: usize, nodes: &[i64], block: usize, v: usize) -> Found
+    requires { ⌜ Fine (length (now words)) n (length (now nodes)) block ⌝ }
+    requires { ⌜ v < n ⌝ }
+    ensures { λ a. ⌜ paperFound a ≡ lastChild (now (words .entry)) n (walked (now (words .entry)) n (now (nodes .entry)) block) v ⌝ }
+{
+    if !bp_handle::is_open(words, n, v + 1) {
+        return Found::Nothing;
+    }
+    match walk_code::walk_fwd(words, n, nodes, block, v, -1) {
+        Found::At(c) => walk_code::walk_bwd(words, n, nodes, block, c - 1, -1),
+        Found::Nothing => Found::Nothing,
+        Found::Refused(k) => Found::Refused(k),
+    }
+}
+
+// close(v) + 1, if that is an open bit of the row.
+pub fn next_sibling(words: &[u64], n: usize, nodes: &[i64], block: usize, v: usize) -> Found
+    ensures { λ a. ⌜ paperFound a ≡ nodeAnswer nextSibling (now (words .entry)) n (now (nodes .entry)) block v ⌝ }
+    ensures { λ a. ⌜ WhereBuilt (now (words .entry)) n (now (nodes .entry)) block (paperFound a) (nodeDefined nextSibling (now (words .entry)) n v) ⌝ }
+{
+    match bp_handle::admit_node(words, n, nodes, block, v) {
+        Gate::Refuse(k) => Found::Refused(k),
+        Gate::Pass => next_of(words, n, nodes, block, v),
+    }
+}
+
+// The same, once the tests are passed.
+fn next_of(words: &[u64], n: usize, nodes: &[i64], block: usize, v: usize) -> Found
+    requires { ⌜ Fine (length (now words)) n (length (now nodes)) block ⌝ }
+    ensures { λ a. ⌜ paperFound a ≡ nextSibling (now (words .entry)) n (walked (now (words .entry)) n (now (nodes .entry)) block) v ⌝ }
+{
+    match walk_code::walk_fwd(words, n, nodes, block, v, -1) {
+        Found::At(c) => bp_handle::handle_after(words, n, c),
+        Found::Nothing => Found::Nothing,
+        Found::Refused(k) => Found::Refused(k),
+    }
+}
+
+// If v > 0 and bit v - 1 closes: open(v - 1).
+pub fn previous_sibling(words: &[u64], n: usize, nodes: &[i64], block: usize, v: usize) -> Found
+    ensures { λ a. ⌜ paperFound a ≡ nodeAnswer previousSibling (now (words .entry)) n (now (nodes .entry)) block v ⌝ }
+    ensures { λ a. ⌜ WhereBuilt (now (words .entry)) n (now (nodes .entry)) block (paperFound a) (nodeDefined previousSibling (now (words .entry)) n v) ⌝ }
+{
+    match bp_handle::admit_node(words, n, nodes, block, v) {
+        Gate::Refuse(k) => Found::Refused(k),
+        Gate::Pass => previous_of(words, n, nodes, block, v),
+    }
+}
+
+// The same, once the tests are passed.
+fn previous_of(words: &[u64], n: usize, nodes: &[i64], block: usize, v: usize) -> Found
+    requires { ⌜ Fine (length (now words)) n (length (now nodes)) block ⌝ }
+    requires { ⌜ v < n ⌝ }
+    ensures { λ a. ⌜ paperFound a ≡ previousSibling (now (words .entry)) n (walked (now (words .entry)) n (now (nodes .entry)) block) v ⌝ }
+{
+    if v == 0 {
+        return Found::Nothing;
+    }
+    if row::opens_at(words, v - 1) {
+        return Found::Nothing;
+    }
+    walk_code::walk_bwd(words, n, nodes, block, v - 1, -1)
+}

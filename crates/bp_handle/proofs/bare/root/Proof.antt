@@ -1,0 +1,34 @@
+-- `handle::root` meets its contract: a shut gate is the refusal, an open one 0, or nothing on an empty row. Assumes nothing.
+use mathlib.Core.Path.{_≡_, sym, _∙_}
+use lib.ListN.{length}
+use borrow.Author.Needs.{needs}
+use Rattle.row.specs.declared.gate.Gate.the-variants.{Pass}
+use Rattle.row.specs.Gates.{rowGate}
+use Rattle.bp_handle.proofs.RowAnswers.{root-some, root-none}
+use Rattle.bp_handle.proofs.bare.root.Statement.{statement}
+use Rattle.bp_handle.proofs.bare.root.Tie as tie
+
+-- refusals 2 and 3 are passed
+passed : (c : tie.After-enum-told) → let a = c .before .before .before .before .args in rowGate (length (a .words .now)) (a .n) ≡ Pass
+passed c = sym (c .before .before .admit-row .ensures) ∙ c .enum-told .given .1
+
+admit-row-requires : tie.Need-admit-row-requires
+admit-row-requires c κs = search needs
+
+enum-known-k : tie.Need-enum-known-k
+enum-known-k c = search needs
+
+enum-told : tie.Need-enum-told
+enum-told c = search needs
+
+returns : tie.Need-returns
+returns c = let e = sym (c .before .before .before .admit-row .ensures) ∙ c .before .k .given .1 in rw e
+
+returns-2 : tie.Need-returns-2
+returns-2 c = rw (passed (c .before)) (root-some _ (c .if1 .taken))
+
+returns-3 : tie.Need-returns-3
+returns-3 c = rw (passed (c .before)) (root-none _ (c .if1 .left))
+
+pub root-spec : {M : Type 1} → statement M
+root-spec = tie.close (tie.spec admit-row-requires enum-known-k enum-told returns returns-2 returns-3)

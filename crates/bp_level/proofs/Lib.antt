@@ -1,0 +1,2 @@
+pub mod NodeLevels
+pub mod LevelEnds

@@ -1,0 +1,45 @@
+-- `ends::leftmost_at` meets its contract: no bits, the first bit, a level too far, or the search. Assumes nothing.
+use mathlib.Core.Path.{_∙_}
+use Prim.Native.Nat.{_≤_}
+use native.Mathlib.Omega.{arith}
+use borrow.Author.Needs.{needs}
+use Rattle.bp_level.proofs.NodeLevels.{told-far, told-near, level-fits, level-read}
+use Rattle.bp_level.proofs.LevelEnds.{leftmost-none, leftmost-root, leftmost-far, leftmost-walk}
+use Rattle.bp_level.proofs.ends.leftmost_at.Statement.{statement}
+use Rattle.bp_level.proofs.ends.leftmost_at.Tie as tie
+
+-- from where there are bits and k is not 0 back to the entry
+abbrev entry : tie.Else2 → tie.Start
+entry c = c .before .before .before
+
+-- where it searches, k is not too far
+near : (c : tie.Else3) → (let a = entry (c .before .before) .args in a .k ≤ a .n)
+near c = told-near (c .before .too-far .ensures) (c .if3 .left)
+
+returns : tie.Need-returns
+returns c = leftmost-none _ _ _ _ _ (c .if1 .taken)
+
+returns-2 : tie.Need-returns-2
+returns-2 c = leftmost-root _ _ _ _ _ (omega arith) (c .if2 .taken)
+
+too-far-requires : tie.Need-too-far-requires
+too-far-requires c κs = search needs
+
+returns-3 : tie.Need-returns-3
+returns-3 c = leftmost-far _ _ _ _ _ (c .before .before .if2 .left) (told-far (c .before .too-far .ensures) (c .if3 .taken))
+
+cast-walk-fwd : tie.Need-cast-walk-fwd
+cast-walk-fwd c = level-fits _ _ (entry (c .before .before) .pre .short) (near c)
+
+walk-fwd-requires : tie.Need-walk-fwd-requires
+walk-fwd-requires c κs = search needs
+
+returns-4 : tie.Need-returns-4
+returns-4 c =
+    let e = c .before .before .before in
+    (rw (level-read _ _ (entry e .pre .short) (near (c .before))) at (c .walk-fwd .ensures)) ∙ leftmost-walk _ _ _ _ _ (e .if2 .left)
+
+pub leftmost-at-spec : {M : Type 1} → statement M
+leftmost-at-spec =
+    tie.close
+    (tie.spec returns returns-2 too-far-requires returns-3 cast-walk-fwd walk-fwd-requires returns-4)

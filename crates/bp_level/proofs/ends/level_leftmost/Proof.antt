@@ -1,0 +1,37 @@
+-- `ends::level_leftmost` meets its contract: a shut gate is the refusal, an open one the walk's answer. Assumes nothing.
+use mathlib.Core.Path.{_≡_, sym, _∙_}
+use lib.ListN.{length}
+use borrow.Author.Needs.{needs}
+use Rattle.row.specs.declared.gate.Gate.the-variants.{Pass}
+use Rattle.mmt_layout.specs.Layout.{nodesGate}
+use Rattle.mmt_layout.proofs.Admitted.{gate-fine}
+use Rattle.bp_spec.specs.LevelEnds.{levelLeftmost}
+use Rattle.bp_level.proofs.LevelEnds.{level-refused, level-passed}
+use Rattle.bp_level.proofs.ends.level_leftmost.Statement.{statement}
+use Rattle.bp_level.proofs.ends.level_leftmost.Tie as tie
+
+-- in the arm that walks, refusals 1 to 4 are passed
+passed : (c : tie.After-enum-told) → (let a = c .before .before .before .before .args in
+    nodesGate (length (a .words .now)) (a .n) (length (a .nodes .now)) (a .block) ≡ Pass)
+passed c = sym (c .before .before .admit .ensures) ∙ c .enum-told .given .1
+
+admit-requires : tie.Need-admit-requires
+admit-requires c κs = search needs
+
+enum-known-e : tie.Need-enum-known-e
+enum-known-e c = search needs
+
+enum-told : tie.Need-enum-told
+enum-told c = search needs
+
+leftmost-at-requires : tie.Need-leftmost-at-requires
+leftmost-at-requires c κs = gate-fine _ _ _ _ (passed c)
+
+returns : tie.Need-returns
+returns c = level-refused _ _ _ _ levelLeftmost _ (c .before .e .given .0 .0) (sym (c .before .before .before .admit .ensures) ∙ c .before .e .given .1)
+
+returns-2 : tie.Need-returns-2
+returns-2 c = level-passed _ _ _ _ levelLeftmost _ _ (passed (c .before)) (c .leftmost-at .ensures)
+
+pub level-leftmost-spec : {M : Type 1} → statement M
+level-leftmost-spec = tie.close (tie.spec admit-requires enum-known-e enum-told leftmost-at-requires returns returns-2)

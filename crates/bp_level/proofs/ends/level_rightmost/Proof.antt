@@ -1,0 +1,36 @@
+-- `ends::level_rightmost` meets its contract: a shut gate is the refusal, an open one the walk's answer. Assumes nothing.
+use mathlib.Core.Path.{_≡_, sym, _∙_}
+use lib.ListN.{length}
+use borrow.Author.Needs.{needs}
+use Rattle.row.specs.declared.gate.Gate.the-variants.{Pass}
+use Rattle.mmt_layout.specs.Layout.{nodesGate}
+use Rattle.mmt_layout.proofs.Admitted.{gate-fine}
+use Rattle.bp_level.proofs.LevelEnds.{rightmost-refused, rightmost-passed}
+use Rattle.bp_level.proofs.ends.level_rightmost.Statement.{statement}
+use Rattle.bp_level.proofs.ends.level_rightmost.Tie as tie
+
+-- in the arm that walks, refusals 1 to 4 are passed
+passed : (c : tie.After-enum-told) → (let a = c .before .before .before .before .args in
+    nodesGate (length (a .words .now)) (a .n) (length (a .nodes .now)) (a .block) ≡ Pass)
+passed c = sym (c .before .before .admit .ensures) ∙ c .enum-told .given .1
+
+admit-requires : tie.Need-admit-requires
+admit-requires c κs = search needs
+
+enum-known-e : tie.Need-enum-known-e
+enum-known-e c = search needs
+
+enum-told : tie.Need-enum-told
+enum-told c = search needs
+
+rightmost-at-requires : tie.Need-rightmost-at-requires
+rightmost-at-requires c κs = gate-fine _ _ _ _ (passed c)
+
+returns : tie.Need-returns
+returns c = rightmost-refused _ _ _ _ _ (c .before .e .given .0 .0) (sym (c .before .before .before .admit .ensures) ∙ c .before .e .given .1)
+
+returns-2 : tie.Need-returns-2
+returns-2 c = rightmost-passed _ _ _ _ _ _ (passed (c .before)) (c .rightmost-at .ensures)
+
+pub level-rightmost-spec : {M : Type 1} → statement M
+level-rightmost-spec = tie.close (tie.spec admit-requires enum-known-e enum-told rightmost-at-requires returns returns-2)

@@ -1,0 +1,82 @@
+-- `ends::rightmost_at` meets its contract: a level too far, or what the start passes on. Assumes nothing.
+use mathlib.Core.Path.{_∙_}
+use Prim.Native.Nat.{_≤_}
+use native.Mathlib.Omega.{arith}
+use borrow.Author.Needs.{needs}
+use Rattle.bp_level.proofs.NodeLevels.{on-at, on-nothing, on-refused, told-far, told-near, level-fits, level-read}
+use Rattle.bp_level.proofs.LevelEnds.{rightmost-far, rightmost-walk}
+use Rattle.bp_spec.proofs.RightmostStart.{root-there}
+use Rattle.bp_level.proofs.ends.rightmost_at.Statement.{statement}
+use Rattle.bp_level.proofs.ends.rightmost_at.Tie as tie
+
+-- from where it goes on back to the entry
+abbrev entry : tie.Else1 → tie.Start
+entry c = c .before .before .before
+
+-- where it goes on, k is not too far
+near : (c : tie.Else1) → (let a = entry c .args in a .k ≤ a .n)
+near c = told-near (c .before .too-far .ensures) (c .if1 .left)
+
+too-far-requires : tie.Need-too-far-requires
+too-far-requires c κs = search needs
+
+returns : tie.Need-returns
+returns c = rightmost-far _ _ _ _ _ _ (told-far (c .before .too-far .ensures) (c .if1 .taken))
+
+root-start-requires : tie.Need-root-start-requires
+root-start-requires c κs =
+    let s = entry c in
+    let f = s .pre in
+    (f .short, λ h. omega (arith, f .nodes, root-there (s .args .n) (s .args .block) (omega (arith, f .eight)) h))
+
+enum-known-i : tie.Need-enum-known-i
+enum-known-i c = search needs
+
+cast-open-before : tie.Need-cast-open-before
+cast-open-before c = let e = c .before .before .before .before in level-fits _ _ (entry e .pre .short) (near e)
+
+open-before-requires : tie.Need-open-before-requires
+open-before-requires c κs = search needs
+
+enum-told : tie.Need-enum-told
+enum-told c = search needs
+
+enum-known-e : tie.Need-enum-known-e
+enum-known-e c = search needs
+
+returns-2 : tie.Need-returns-2
+returns-2 c =
+    let g = c .before .before in
+    let m = g .before .before in
+    let e = m .before in
+    let s = entry e in
+    on-at _ _ _ (m .root-start .ensures) _ _ (g .i .given .1)
+    (rw (level-read (s .args .n) (s .args .k) (s .pre .short) (near e)) at (c .open-before .ensures))
+    ∙ rightmost-walk _ _ _ _ _ _ (near e)
+
+returns-3 : tie.Need-returns-3
+returns-3 c =
+    let m = c .before .before in
+    on-nothing _ _ _ (m .root-start .ensures) (c .enum-told .given .1) ∙ rightmost-walk _ _ _ _ _ _ (near (m .before))
+
+returns-4 : tie.Need-returns-4
+returns-4 c =
+    let g = c .before in
+    let m = g .before .before in
+    on-refused _ _ _ (m .root-start .ensures) (g .e .given .0 .0) (g .e .given .1) ∙ rightmost-walk _ _ _ _ _ _ (near (m .before))
+
+pub rightmost-at-spec : {M : Type 1} → statement M
+rightmost-at-spec =
+    tie.close
+    (tie.spec
+    too-far-requires
+    returns
+    root-start-requires
+    enum-known-i
+    cast-open-before
+    open-before-requires
+    enum-told
+    enum-known-e
+    returns-2
+    returns-3
+    returns-4)

@@ -1,0 +1,53 @@
+-- `ends::root_start` meets its contract: no bits, a root out of range, or the start by its total. Assumes nothing.
+use mathlib.Core.Path.{_∙_}
+use native.Mathlib.Omega.{arith}
+use borrow.Author.Needs.{needs}
+use Rattle.bits_stretch.specs.declared.summary.Summary.{Summary}
+use Rattle.mmt_node.specs.Nodes.{nodeAt}
+use Rattle.walk_examine.specs.declared.ask.Examined.the-variants.{Fit}
+use Rattle.walk_examine.proofs.Asked.{Looked, looked, fits-size, total-back}
+use Rattle.bp_spec.proofs.RightmostStart.{start-none, start-misfit, start-root}
+use Rattle.bp_level.proofs.ends.root_start.Statement.{statement}
+use Rattle.bp_level.proofs.ends.root_start.Tie as tie
+
+-- the root that is in range
+abbrev root : tie.After-x → Summary
+root c = nodeAt (c .before .before .before .before .args .nodes .now) 0
+
+look : (c : tie.After-x) → Looked (root c) (Fit (c .x .given .0 .0))
+look c = looked (root c) (c .before .before .examine .ensures) (c .x .given .1)
+
+returns : tie.Need-returns
+returns c = start-none _ _ (c .if1 .taken)
+
+examine-requires : tie.Need-examine-requires
+examine-requires c κs = let z = c .if1 .left in c .before .pre .1 (omega arith)
+
+enum-known-x : tie.Need-enum-known-x
+enum-known-x c = search needs
+
+start-by-requires : tie.Need-start-by-requires
+start-by-requires c κs =
+    let g = c .before .before in
+    rw (total-back (root g) (look g)) (g .before .before .before .before .pre .0, fits-size (root g) (look g .0))
+
+enum-told : tie.Need-enum-told
+enum-told c = search needs
+
+returns-2 : tie.Need-returns-2
+returns-2 c =
+    let g = c .before .before .before in
+    let e = g .before .before .before in
+    (rw (total-back (root g) (look g)) at (c .start-by .ensures))
+    ∙ start-root (e .before .args .n) (e .before .args .nodes .now) (e .if1 .left) (look g .0)
+
+returns-3 : tie.Need-returns-3
+returns-3 c =
+    let m = c .before .before in
+    let a = m .before .before .args in
+    start-misfit (a .n) (a .nodes .now) (m .before .if1 .left) (looked (nodeAt (a .nodes .now) 0) (m .examine .ensures) (c .enum-told .given .1))
+
+pub root-start-spec : {M : Type 1} → statement M
+root-start-spec =
+    tie.close
+    (tie.spec returns examine-requires enum-known-x start-by-requires enum-told returns-2 returns-3)

@@ -1,0 +1,42 @@
+-- `level::level_ancestor` meets its contract: a shut gate is the refusal, an open one the walk's answer. Assumes nothing.
+use mathlib.Core.Path.{_≡_, sym, _∙_}
+use borrow.Author.Needs.{needs}
+use Rattle.row.specs.declared.gate.Gate.the-variants.{Pass}
+use Rattle.bp_spec.proofs.HandleAnswers.{passed-fine, nodeGate, node-refused, node-passed}
+use Rattle.bp_spec.specs.LevelCalls.{levelAncestor}
+use Rattle.bp_level.proofs.from_node.level_ancestor.Statement.{statement}
+use Rattle.bp_level.proofs.from_node.level_ancestor.Tie as tie
+
+-- from the gate's answer back to the entry
+abbrev entry : tie.After-admit-node → tie.Start
+entry c = c .before .before
+
+-- in the arm that walks, refusals 1 to 5 are passed
+passed : (c : tie.After-enum-told) → (let a = entry (c .before .before) .args in
+    nodeGate (a .words .now) (a .n) (a .nodes .now) (a .block) (a .v) ≡ Pass)
+passed c = sym (c .before .before .admit-node .ensures) ∙ c .enum-told .given .1
+
+admit-node-requires : tie.Need-admit-node-requires
+admit-node-requires c κs = search needs
+
+enum-known-e : tie.Need-enum-known-e
+enum-known-e c = search needs
+
+enum-told : tie.Need-enum-told
+enum-told c = search needs
+
+ancestor-at-requires : tie.Need-ancestor-at-requires
+ancestor-at-requires c κs = passed-fine _ _ _ _ _ (passed c)
+
+returns : tie.Need-returns
+returns c =
+    let g = c .before .before .before in
+    node-refused _ _ _ _ _ (levelAncestor (entry g .args .k)) (c .before .e .given .0 .0) (sym (g .admit-node .ensures) ∙ c .before .e .given .1)
+
+returns-2 : tie.Need-returns-2
+returns-2 c =
+    let g = c .before .before .before in
+    node-passed _ _ _ _ _ (levelAncestor (entry g .args .k)) _ (passed (c .before)) (c .ancestor-at .ensures)
+
+pub level-ancestor-spec : {M : Type 1} → statement M
+level-ancestor-spec = tie.close (tie.spec admit-node-requires enum-known-e enum-told ancestor-at-requires returns returns-2)

@@ -1,0 +1,36 @@
+-- `level::level_next` meets its contract: a shut gate is the refusal, an open one the walk's answer. Assumes nothing.
+use mathlib.Core.Path.{_≡_, sym, _∙_}
+use borrow.Author.Needs.{needs}
+use Rattle.row.specs.declared.gate.Gate.the-variants.{Pass}
+use Rattle.bp_spec.proofs.HandleAnswers.{passed-fine, nodeGate, node-refused, node-passed}
+use Rattle.bp_spec.specs.LevelCalls.{levelNext}
+use Rattle.bp_level.proofs.from_node.level_next.Statement.{statement}
+use Rattle.bp_level.proofs.from_node.level_next.Tie as tie
+
+-- in the arm that walks, refusals 1 to 5 are passed
+passed : (c : tie.After-enum-told) → (let a = c .before .before .before .before .args in
+    nodeGate (a .words .now) (a .n) (a .nodes .now) (a .block) (a .v) ≡ Pass)
+passed c = sym (c .before .before .admit-node .ensures) ∙ c .enum-told .given .1
+
+admit-node-requires : tie.Need-admit-node-requires
+admit-node-requires c κs = search needs
+
+enum-known-e : tie.Need-enum-known-e
+enum-known-e c = search needs
+
+enum-told : tie.Need-enum-told
+enum-told c = search needs
+
+next-of-requires : tie.Need-next-of-requires
+next-of-requires c κs = passed-fine _ _ _ _ _ (passed c)
+
+returns : tie.Need-returns
+returns c =
+    node-refused _ _ _ _ _ levelNext (c .before .e .given .0 .0)
+    (sym (c .before .before .before .admit-node .ensures) ∙ c .before .e .given .1)
+
+returns-2 : tie.Need-returns-2
+returns-2 c = node-passed _ _ _ _ _ levelNext _ (passed (c .before)) (c .next-of .ensures)
+
+pub level-next-spec : {M : Type 1} → statement M
+level-next-spec = tie.close (tie.spec admit-node-requires enum-known-e enum-told next-of-requires returns returns-2)

@@ -1,0 +1,49 @@
+-- `search::fwd_search` meets its contract: a shut gate is the refusal, an open one the walk's answer. Assumes nothing.
+use mathlib.Core.Path.{_≡_, sym, _∙_}
+use lib.ListN.{length}
+use borrow.Author.Needs.{needs}
+use mir.Syntax.{w64}
+use mir.ValLaws.{toZ-ofZ}
+use Rattle.row.specs.declared.gate.Gate.{Gate}
+use Rattle.row.specs.declared.gate.Gate.the-variants.{Pass}
+use Rattle.row.specs.Way.{forward}
+use Rattle.mmt_layout.specs.Layout.{nodesGate}
+use Rattle.mmt_layout.proofs.Admitted.{gate-fine}
+use Rattle.bp_spec.proofs.SearchAnswers.{when-refused, when-forward}
+use Rattle.bp_search.proofs.fwd_search.Statement.{statement}
+use Rattle.bp_search.proofs.fwd_search.Tie as tie
+
+-- what the tests say
+abbrev gate : tie.After-admit → Gate
+gate c = let a = c .before .before .args in nodesGate (length (a .words .now)) (a .n) (length (a .nodes .now)) (a .block)
+
+-- in the arm that walks, they are passed
+passed : (c : tie.After-enum-told) → gate (c .before .before) ≡ Pass
+passed c = sym (c .before .before .admit .ensures) ∙ c .enum-told .given .1
+
+admit-requires : tie.Need-admit-requires
+admit-requires c κs = search needs
+
+enum-known-k : tie.Need-enum-known-k
+enum-known-k c = search needs
+
+enum-told : tie.Need-enum-told
+enum-told c = search needs
+
+walk-fwd-requires : tie.Need-walk-fwd-requires
+walk-fwd-requires c κs = gate-fine _ _ _ _ (passed c)
+
+returns : tie.Need-returns
+returns c =
+    let b = c .before .before .before in
+    when-refused _ _ _ _ _ _ forward _ (c .before .k .given .0 .0) (sym (b .admit .ensures) ∙ c .before .k .given .1)
+
+returns-2 : tie.Need-returns-2
+returns-2 c =
+    let e = c .before in
+    when-forward _ _ _ _ _ _ _ (passed e) (rw (toZ-ofZ w64 _ (e .before .before .before .before .fits .r)) at (c .walk-fwd .ensures))
+
+pub fwd-search-spec : {M : Type 1} → statement M
+fwd-search-spec =
+    tie.close
+    (tie.spec admit-requires enum-known-k enum-told walk-fwd-requires returns returns-2)

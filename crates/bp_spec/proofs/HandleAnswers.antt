@@ -1,0 +1,66 @@
+-- From the outcome of the tests and the answer that is found then to what a call on a node promises, for any call.
+--   said: what a search is, by the case of its answer
+--   passed-fine, passed-handle: what is passed; gates-refused, gates-passed: a call by searches, whatever else it tests
+--   nodeGate, node-refused, node-passed: a call on one handle
+-- Assumes nothing.
+use mathlib.Core.Path.{_≡_, sym, ap, _∙_}
+use mathlib.Core.List.{List}
+use Prim.Native.Nat.{ℕ}
+use lib.IntN.{ℤ}
+use lib.ListN.{length}
+use Rattle.row.specs.declared.refusal.Refusal.{Refusal}
+use Rattle.row.specs.declared.gate.Gate.{Gate}
+use Rattle.row.specs.declared.gate.Gate.the-variants.{Pass, Refuse}
+use Rattle.row.specs.Answer.{Answer, refused, numberOf, paperFound}
+use Rattle.row.specs.Gates.{handleGate, andThen, through}
+use Rattle.row.specs.declared.answer.Found.{Found}
+use Rattle.mmt_layout.specs.Layout.{nodesGate, Fine}
+use Rattle.mmt_layout.proofs.Admitted.{gate-fine}
+use Rattle.bp_spec.proofs.Gates.{then-passed}
+use Rattle.bp_spec.specs.SearchCalls.{WhereBuilt}
+use Rattle.bp_spec.specs.SearchPair.{Searches, walked, defined}
+use Rattle.bp_spec.specs.HandleCalls.{nodeAnswer, nodeDefined}
+use Rattle.bp_spec.proofs.SearchesAgree.{call-defined}
+
+pub said : {f g : Found} {x : Answer} → paperFound f ≡ x → f ≡ g → x ≡ paperFound g
+said e h = sym e ∙ ap paperFound h
+
+-- ---- a call by searches: refusals 1 to 4, then those of h
+module _ (w n t B : ℕ) (h : Gate) (g : andThen (nodesGate w n t B) h ≡ Pass) where
+  pub passed-fine : Fine w n t B
+  passed-fine = gate-fine w n t B (then-passed (nodesGate w n t B) h g .0)
+
+  pub passed-handle : h ≡ Pass
+  passed-handle = then-passed (nodesGate w n t B) h g .1
+
+module _ (ws : List ℕ) (n : ℕ) (s : List ℤ) (B : ℕ) where
+  abbrev pub gate : Gate
+  gate = nodesGate (length ws) n (length s) B
+
+  module _ (h : Gate) (call : Searches → Answer) where
+    abbrev pub GatedPromise : Answer → Type 0
+    GatedPromise a = (a ≡ through (andThen gate h) (call (walked ws n s B))) × WhereBuilt ws n s B a (through h (call (defined ws n)))
+
+    pub gates-refused : (k : Refusal) → andThen gate h ≡ Refuse k → GatedPromise (refused (numberOf k))
+    gates-refused k g = (rw g, λ o b. let e : h ≡ Refuse k = rw o at g in rw e)
+
+    pub gates-passed : (a : Answer) → andThen gate h ≡ Pass → a ≡ call (walked ws n s B) → GatedPromise a
+    gates-passed a g e = (rw g e, λ o b. rw (then-passed gate h g .1) (e ∙ call-defined ws n s B o b call))
+
+  -- ---- on one handle
+  module _ (v : ℕ) where
+    -- refusals 1 to 5
+    abbrev pub nodeGate : Gate
+    nodeGate = andThen gate (handleGate ws n v)
+
+    module _ (call : List ℕ → ℕ → Searches → ℕ → Answer) where
+      abbrev pub HandlePromise : Answer → Type 0
+      HandlePromise a = (a ≡ nodeAnswer call ws n s B v) × WhereBuilt ws n s B a (nodeDefined call ws n v)
+
+      pub node-refused : (k : Refusal) → nodeGate ≡ Refuse k → HandlePromise (refused (numberOf k))
+      unfolding nodeAnswer nodeDefined
+      node-refused = gates-refused (handleGate ws n v) (λ f. call ws n f v)
+
+      pub node-passed : (a : Answer) → nodeGate ≡ Pass → a ≡ call ws n (walked ws n s B) v → HandlePromise a
+      unfolding nodeAnswer nodeDefined
+      node-passed = gates-passed (handleGate ws n v) (λ f. call ws n f v)

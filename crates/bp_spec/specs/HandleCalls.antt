@@ -1,0 +1,18 @@
+-- What a call on a handle answers: the refusals in their order, then the call by the walk; and by definition.
+-- Assumes nothing.
+use mathlib.Core.List.{List}
+use Prim.Native.Nat.{ℕ}
+use lib.IntN.{ℤ}
+use lib.ListN.{length}
+use Rattle.row.specs.Answer.{Answer}
+use Rattle.row.specs.Gates.{handleGate, andThen, through}
+use Rattle.mmt_layout.specs.Layout.{nodesGate}
+use Rattle.bp_spec.specs.SearchPair.{Searches, walked, defined}
+
+-- a call on a handle: refusals 1 to 5, then the call by the walk
+unfoldable pub nodeAnswer : (List ℕ → ℕ → Searches → ℕ → Answer) → List ℕ → ℕ → List ℤ → ℕ → ℕ → Answer
+nodeAnswer call ws n s B v = through (andThen (nodesGate (length ws) n (length s) B) (handleGate ws n v)) (call ws n (walked ws n s B) v)
+
+-- the same by definition, once refusals 1 to 4 are passed
+unfoldable pub nodeDefined : (List ℕ → ℕ → Searches → ℕ → Answer) → List ℕ → ℕ → ℕ → Answer
+nodeDefined call ws n v = through (handleGate ws n v) (call ws n (defined ws n) v)

@@ -1,0 +1,57 @@
+-- The first and the last node of a level in document 01's words, over any two searches; and what the two calls answer.
+-- Assumes nothing.
+use mathlib.Core.Bool.{cond, _&&_}
+use mathlib.Core.List.{List}
+use Prim.Native.Nat.{ℕ, zero, suc, _+_, _-_, _*_}
+use lib.Dec.{ltb, eqb}
+use lib.IntN.{ℤ, pos, negsuc, _+ℤ_, _-ℤ_}
+use lib.ListN.{length}
+use Rattle.row.specs.Answer.{Answer, at, nothing, refused}
+use Rattle.row.specs.Bits.{bitAt}
+use Rattle.row.specs.Gates.{through}
+use Rattle.mmt_layout.specs.Layout.{nodesGate}
+use Rattle.mmt_node.specs.Nodes.{nodeAt}
+use Rattle.walk_spec.specs.Walk.{fits}
+use Rattle.bp_spec.specs.SearchPair.{Searches, walked, defined, onward, openOf}
+
+module _ (ws : List ℕ) (n : ℕ) (s : Searches) where
+  -- level_leftmost(k): 0 if k = 0 and n > 0, else fwd(0, k)
+  unfoldable pub levelLeftmost : ℕ → Answer
+  levelLeftmost k = cond (eqb k 0 && ltb 0 n) (at 0) (s .fwd 0 (pos k))
+
+  -- level_rightmost(k), from its starting index: open(bwd(.., k)); nothing for k > n
+  unfoldable pub levelRightmost : Answer → ℕ → Answer
+  levelRightmost start k = cond (ltb n k) nothing (onward start (λ i. onward (s .bwd i (pos k)) (openOf s)))
+
+-- ---- where level_rightmost starts
+
+-- the open bits among the first k
+unfoldable pub ones : List ℕ → ℕ → ℕ
+ones ws zero = 0
+ones ws (suc k) = ones ws k + bitAt ws k
+
+-- by definition: 2*ones - 1, ones being the open bits of the row; nothing if ones = 0
+unfoldable pub lastStart : List ℕ → ℕ → Answer
+lastStart ws n = cond (eqb (ones ws n) 0) nothing (at (2 * ones ws n - 1))
+
+-- a number as a position: nothing if it is below 0 or at least n
+abbrev pub inRow : ℕ → ℤ → Answer
+inRow n (pos i) = cond (ltb i n) (at i) nothing
+inRow n (negsuc i) = nothing
+
+-- over any nodes: the root is examined first, and n + total - 1 taken; nothing on an empty row
+unfoldable pub rootStart : ℕ → List ℤ → Answer
+rootStart n s = cond (eqb n 0) nothing (cond (fits (nodeAt s 0)) (inRow n (pos n +ℤ nodeAt s 0 .total -ℤ pos 1)) (refused 8))
+
+-- ---- without a handle
+
+-- a call on a level: refusals 1 to 4, then the call by the walk
+unfoldable pub levelAnswer : (List ℕ → ℕ → Searches → ℕ → Answer) → List ℕ → ℕ → List ℤ → ℕ → ℕ → Answer
+levelAnswer call ws n s B k = through (nodesGate (length ws) n (length s) B) (call ws n (walked ws n s B) k)
+
+-- level_rightmost by the walk starts by the root's total, by definition at 2*ones - 1
+unfoldable pub rightmostAnswer : List ℕ → ℕ → List ℤ → ℕ → ℕ → Answer
+rightmostAnswer ws n s B k = through (nodesGate (length ws) n (length s) B) (levelRightmost ws n (walked ws n s B) (rootStart n s) k)
+
+unfoldable pub rightmostDefined : List ℕ → ℕ → ℕ → Answer
+rightmostDefined ws n k = levelRightmost ws n (defined ws n) (lastStart ws n) k

@@ -1,0 +1,10 @@
+pub mod SearchCalls
+pub mod SearchPair
+pub mod HandleCalls
+pub mod RowCalls
+pub mod AncestorCalls
+pub mod SiblingCalls
+pub mod LevelCalls
+pub mod LevelEnds
+pub mod Questions
+pub mod Ranges

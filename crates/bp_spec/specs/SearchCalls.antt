@@ -1,0 +1,34 @@
+-- What the searches answer: the refusals in their order, then the walk; and what that is over nodes as built.
+-- Assumes nothing.
+use mathlib.Core.Path.{_≡_}
+use mathlib.Core.Bool.{cond}
+use mathlib.Core.List.{List}
+use Prim.Native.Nat.{ℕ}
+use lib.IntN.{ℤ, negsuc}
+use lib.ListN.{length}
+use Rattle.row.specs.declared.gate.Gate.the-variants.{Pass}
+use Rattle.row.specs.Answer.{Answer}
+use Rattle.row.specs.Gates.{through}
+use Rattle.row.specs.Tree.{opens}
+use Rattle.row.specs.Way.{Way, forward, backward}
+use Rattle.mmt_layout.specs.Layout.{nodesGate}
+use Rattle.mmt_node.specs.Nodes.{AsBuilt}
+use Rattle.walk_spec.specs.Walk.{walk}
+
+-- a search that way: refusals 1, 2, 3, 4, then the walk, over any words, nodes, position and r
+unfoldable pub searchAnswer : Way → List ℕ → ℕ → List ℤ → ℕ → ℕ → ℤ → Answer
+searchAnswer w ws n s B i r = through (nodesGate (length ws) n (length s) B) (walk w ws n s B i r .answer)
+
+abbrev pub fwdAnswer : List ℕ → ℕ → List ℤ → ℕ → ℕ → ℤ → Answer
+fwdAnswer = searchAnswer forward
+
+abbrev pub bwdAnswer : List ℕ → ℕ → List ℤ → ℕ → ℕ → ℤ → Answer
+bwdAnswer = searchAnswer backward
+
+-- where nothing is refused and the nodes are as built for the row, the n and the B of the call, the answer is the definition's
+abbrev pub WhereBuilt : List ℕ → ℕ → List ℤ → ℕ → Answer → Answer → Type 0
+WhereBuilt ws n s B a d = nodesGate (length ws) n (length s) B ≡ Pass → AsBuilt ws n s B → a ≡ d
+
+-- enclose looks -1 back from an open bit, -2 from any other position
+unfoldable pub outward : List ℕ → ℕ → ℕ → ℤ
+outward ws n i = cond (opens ws n i) (negsuc 0) (negsuc 1)

@@ -1,0 +1,80 @@
+-- `asking::read_text` meets its contract: past the limit it reads into an array, as much as fits. Assumes nothing.
+use mathlib.Core.Path.{sym, ap, _∙_}
+use Prim.Native.Nat.{_*_, _≤_}
+use native.Mathlib.Omega.{arith}
+use lib.ListN.{length}
+use lib.Seq.{length-take-le}
+use mir.Syntax.{w64}
+use mir.ValLaws.{toZ-ofZ}
+use Rattle.row.specs.Answer.{at}
+use Rattle.row.specs.Gates.{through}
+use Rattle.text.specs.Text.{textGate}
+use Rattle.wire.specs.Answer.{wireOf}
+use Rattle.c_dispatch.specs.Reader.{leftRow}
+use Rattle.c_dispatch.proofs.Reading.{too-long, short}
+use borrow.Author.Needs.{needs}
+use Rattle.c_dispatch.proofs.reader.read_text.Statement.{statement}
+use Rattle.c_dispatch.proofs.reader.read_text.Tie as tie
+
+-- from where it is known how many words fit back to the entry
+abbrev entry : tie.After-fitting → tie.Start
+entry c = c .before .before .before .before
+
+refused-requires : tie.Need-refused-requires
+refused-requires c κs = search needs
+
+returns : tie.Need-returns
+returns c =
+    let a = c .before .before .before .before .args in
+    let g = sym (too-long _ _ (c .before .if1 .taken)) in (
+      toZ-ofZ w64 _ (record { sfits = c .refused .ok }) ∙ c .refused .ensures ∙ ap (λ x. wireOf (through x (at (length (a .text .now))))) g,
+      ap (λ x. leftRow x (a .text .now) (a .row .now)) g,
+    )
+
+fitting-requires : tie.Need-fitting-requires
+fitting-requires c κs = search needs
+
+array-borrow-prefix-words : tie.Need-array-borrow-prefix-words
+array-borrow-prefix-words c = search needs
+
+slice-aggregate-read-through : tie.Need-slice-aggregate-read-through
+slice-aggregate-read-through c =
+    let h : c .before .fitting .result ≤ 64 = omega (arith, c .before .fitting .ensures) in
+    sym (length-take-le _ _ h)
+
+read-through-requires : tie.Need-read-through-requires
+read-through-requires c κs =
+    let f = c .before .before in
+    let m = f .fitting in
+    let h : m .result ≤ 64 = omega (arith, m .ensures) in
+    let e : 8 * m .result ≤ length (entry f .args .row .now) = omega (arith, m .ensures) in
+    rw (length-take-le _ _ h) e
+
+same-length : tie.Need-same-length
+same-length c = search needs
+
+returns-2 : tie.Need-returns-2
+returns-2 c =
+    let t = c .before .before .before in
+    let f = t .before .before .before in
+    let a = entry f .args in
+    let r = t .read-through in
+    let m = f .fitting in
+    let h : m .result ≤ 64 = omega (arith, m .ensures) in
+    let g = ap (textGate (a .text .now)) (length-take-le _ _ h ∙ m .ensures) ∙ sym (short (a .text .now) _ (f .before .if1 .left)) in (
+      toZ-ofZ w64 _ (record { sfits = r .ok }) ∙ r .ensures .0 ∙ ap (λ x. wireOf (through x (at (length (a .text .now))))) g,
+      r .ensures .1 ∙ ap (λ x. leftRow x (a .text .now) (a .row .now)) g,
+    )
+
+pub read-text-spec : {M : Type 1} → statement M
+read-text-spec =
+    tie.close
+    (tie.spec
+    refused-requires
+    returns
+    fitting-requires
+    array-borrow-prefix-words
+    slice-aggregate-read-through
+    read-through-requires
+    same-length
+    returns-2)

@@ -1,0 +1,39 @@
+// The reader of parenthesis text over byte slices. It tests 2, 6, then 3, and writes nothing before.
+ghost use mathlib.Core.Path.{_≡_};
+ghost use Prim.Native.Nat.{_*_, _≤_};
+ghost use lib.ListN.{length};
+ghost use Rattle.row.specs.Answer.{at};
+ghost use Rattle.row.specs.Gates.{through};
+ghost use Rattle.text.specs.Text.{textGate};
+ghost use Rattle.wire.specs.Answer.{wireOf};
+ghost use Rattle.c_dispatch.specs.Reader.{leftRow, readWire, readBytes};
+use row::Read;
+use row::Refusal;
+
+// Reads into words, then writes those that the bits need over the front of row.
+fn read_through(text: &[u8], words: &mut [u64], row: &mut [u8]) -> i64
+    requires { ⌜ 8 * length (now words) ≤ length (now row) ⌝ }
+    ensures { λ a. ⌜ a ≡ wireOf (through (textGate (now (text .entry)) (length (now (words .entry)))) (at (length (now (text .entry))))) ⌝ }
+    ensures { λ a. ⌜ now (row .exit) ≡ leftRow (textGate (now (text .entry)) (length (now (words .entry)))) (now (text .entry)) (now (row .entry)) ⌝ }
+{
+    match text::read_text(text, words) {
+        Read::Refused(k) => wire::refused(k),
+        Read::Bits(n) => {
+            wire::write_words(&words[..row::words_for(n)], row);
+            n as i64
+        }
+    }
+}
+
+// The bits of a text: their count. Fills the words that they need; bytes past those stay, and a refusal leaves all.
+pub fn read_text(text: &[u8], row: &mut [u8]) -> i64
+    ensures { λ a. ⌜ a ≡ readWire (now (text .entry)) (now (row .entry)) ⌝ }
+    ensures { λ a. ⌜ now (row .exit) ≡ readBytes (now (text .entry)) (now (row .entry)) ⌝ }
+{
+    if 4096 < text.len() {
+        return wire::refused(Refusal::TooManyBits);
+    }
+    let mut words = [0u64; wire::WORDS];
+    let w = wire::fitting(row.len(), wire::WORDS);
+    read_through(text, &mut words[..w], row)
+}

@@ -1,0 +1,58 @@
+-- `lists::list_decoded` meets its contract: the array has room for every answer there can be. Assumes nothing.
+use mathlib.Core.Path.{sym, ap, _∙_}
+use Prim.Native.Nat.{_≤_}
+use native.Mathlib.Omega.{arith}
+use borrow.Author.Needs.{needs}
+use lib.Seq.{length-take-le}
+use mir.Syntax.{w64}
+use mir.ValLaws.{toZ-ofZ}
+use Rattle.wire.specs.Answer.{wireOf}
+use Rattle.c_listings.proofs.Listed.{count-cut, bytes-cut}
+use Rattle.c_listings.proofs.bytes.list_decoded.Statement.{statement}
+use Rattle.c_listings.proofs.bytes.list_decoded.Tie as tie
+
+-- the answers that fit into out fit into the array
+fits : (c : tie.After-fitting) → c .fitting .result ≤ 4098
+fits c = omega (arith, c .fitting .ensures)
+
+fitting-requires : tie.Need-fitting-requires
+fitting-requires c κs = search needs
+
+bits-requires : tie.Need-bits-requires
+bits-requires c κs = search needs
+
+array-borrow-prefix-answers : tie.Need-array-borrow-prefix-answers
+array-borrow-prefix-answers c = search needs
+
+slice-aggregate-put-listing : tie.Need-slice-aggregate-put-listing
+slice-aggregate-put-listing c = sym (length-take-le _ _ (fits (c .before .before)))
+
+put-listing-requires : tie.Need-put-listing-requires
+put-listing-requires c κs =
+    let f = c .before .before .before in
+    rw (length-take-le _ _ (fits f)) (omega (arith, f .fitting .ensures))
+
+same-length : tie.Need-same-length
+same-length c = search needs
+
+returns : tie.Need-returns
+returns c =
+    let d = c .before .before .before in
+    let b = d .before .before .before in
+    let p = d .put-listing in
+    let t = length-take-le _ _ (fits (b .before)) ∙ b .before .fitting .ensures in (
+      toZ-ofZ w64 _ (record { sfits = p .ok }) ∙ p .ensures .0 ∙ ap wireOf (count-cut _ _ _ _ _ _ _ _ _ (b .bits .ensures) t),
+      p .ensures .1 ∙ bytes-cut _ _ _ _ _ _ _ _ _ (b .bits .ensures) t _,
+    )
+
+pub list-decoded-spec : {M : Type 1} → statement M
+list-decoded-spec =
+    tie.close
+    (tie.spec
+    fitting-requires
+    bits-requires
+    array-borrow-prefix-answers
+    slice-aggregate-put-listing
+    put-listing-requires
+    same-length
+    returns)

@@ -1,0 +1,112 @@
+-- `lists::put_listing` meets its contract: a refusal writes nothing, a listing that is made writes its answers. Assumes nothing.
+use mathlib.Core.Path.{_≡_, sym, ap, _∙_}
+use Prim.Native.Nat.{_≤_, _<_}
+use native.Mathlib.Omega.{arith}
+use borrow.Author.Needs.{needs}
+use lib.ListN.{length, take}
+use lib.Seq.{length-take-le}
+use mir.Syntax.{w64}
+use mir.ValLaws.{toZ-ofZ, toZ-pos}
+use Rattle.row.specs.Answer.{at}
+use Rattle.wire.specs.Answer.{wireOf}
+use Rattle.wire.specs.Bytes.{numbersOver}
+use Rattle.list_slice.specs.WholeListing.{paperListed}
+use Rattle.c_listings.specs.Listings.{listedBytes}
+use Rattle.c_listings.proofs.Listed.{count-low, bytes-refused, bytes-passed}
+use Rattle.c_listings.proofs.bytes.put_listing.Statement.{statement}
+use Rattle.c_listings.proofs.bytes.put_listing.Tie as tie
+
+-- from the count back to the listing that it is of, and from that to the entry
+abbrev listed : tie.After-c → tie.After-list
+listed c = c .before .before .before
+
+abbrev entry : tie.After-list → tie.Start
+entry c = c .before .before .before .before
+
+-- what is counted
+counted : (c : tie.After-c) → at (c .c .given .0 .0) ≡ paperListed (listed c .list .result)
+counted c = sym (ap paperListed (c .c .given .1))
+
+low : (c : tie.After-c) → c .c .given .0 .0 < 4294967299
+low c = count-low _ _ _ _ _ _ _ _ (counted c ∙ listed c .list .ensures .0)
+
+-- there are as many numbers as are counted, and what they leave as bytes
+written : (c : tie.After-c) →
+    let a = entry (listed c) .args in
+    let ys = listed c .list .last .1 .1 .1 .1 .1 .1 .0 in
+    (c .c .given .0 .0 ≤ length ys)
+    × (numbersOver (take (c .c .given .0 .0) ys) (a .out .now)
+    ≡ listedBytes (a .rising) (a .words .now) (a .n) (a .nodes .now) (a .block) (a .node) (length (a .answers .now)) (a .out .now))
+written c = let e = listed c .list .ensures in bytes-passed _ _ _ _ _ _ _ _ _ _ (counted c ∙ e .0) (e .1)
+
+list-requires : tie.Need-list-requires
+list-requires c κs = search needs
+
+enum-known-k : tie.Need-enum-known-k
+enum-known-k c = search needs
+
+refused-requires : tie.Need-refused-requires
+refused-requires c κs = search needs
+
+enum-known-c : tie.Need-enum-known-c
+enum-known-c c = search needs
+
+slice-reshare-prefix-write-numbers : tie.Need-slice-reshare-prefix-write-numbers
+slice-reshare-prefix-write-numbers c = written (c .before) .0
+
+slice-aggregate-write-numbers : tie.Need-slice-aggregate-write-numbers
+slice-aggregate-write-numbers c = sym (length-take-le _ _ (written (c .before .before) .0))
+
+write-numbers-requires : tie.Need-write-numbers-requires
+write-numbers-requires c κs =
+    let e = c .before .before .before in
+    let b = listed e in
+    rw (length-take-le _ _ (written e .0)) (omega (arith, written e .0, b .list .kept .1 .1 .1 .1 .1 .1 .0, entry b .pre))
+
+cast-result : tie.Need-cast-result
+cast-result c =
+    let w = c .before .before in
+    let l = low (w .before .before .before .before) in
+    record { sfits = omega arith }
+
+same-length : tie.Need-same-length
+same-length c = search needs
+
+returns : tie.Need-returns
+returns c =
+    let k = c .before .before in
+    let e = sym (ap paperListed (k .k .given .1)) ∙ k .before .before .before .list .ensures .0 in
+    (toZ-ofZ w64 _ (record { sfits = c .refused .ok }) ∙ c .refused .ensures ∙ ap wireOf e, bytes-refused _ _ _ _ _ _ _ _ _ e)
+
+same-length-2 : tie.Need-same-length-2
+same-length-2 c = search needs
+
+same-length-3 : tie.Need-same-length-3
+same-length-3 c = search needs
+
+returns-2 : tie.Need-returns-2
+returns-2 c =
+    let w = c .before .before in
+    let e = w .before .before .before .before in
+    let l = low e in (
+      toZ-pos w64 _ (omega arith) ∙ ap wireOf (counted e ∙ listed e .list .ensures .0),
+      w .write-numbers .ensures ∙ written e .1,
+    )
+
+pub put-listing-spec : {M : Type 1} → statement M
+put-listing-spec =
+    tie.close
+    (tie.spec
+    list-requires
+    enum-known-k
+    refused-requires
+    enum-known-c
+    slice-reshare-prefix-write-numbers
+    slice-aggregate-write-numbers
+    write-numbers-requires
+    cast-result
+    same-length
+    returns
+    same-length-2
+    same-length-3
+    returns-2)

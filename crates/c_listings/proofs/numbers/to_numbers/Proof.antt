@@ -1,0 +1,72 @@
+-- `lists::to_numbers` meets its contract: it is the one call, and its count or its refusal crosses. Assumes nothing.
+use mathlib.Core.Path.{_≡_, sym, ap, _∙_}
+use Prim.Native.Nat.{_<_}
+use native.Mathlib.Omega.{arith}
+use borrow.Author.Needs.{needs}
+use mir.Syntax.{w64}
+use mir.ValLaws.{toZ-ofZ, toZ-pos}
+use Rattle.row.specs.Answer.{at}
+use Rattle.wire.specs.Answer.{wireOf}
+use Rattle.list_slice.specs.WholeListing.{paperListed}
+use Rattle.c_listings.proofs.Listed.{count-low}
+use Rattle.c_listings.proofs.numbers.to_numbers.Statement.{statement}
+use Rattle.c_listings.proofs.numbers.to_numbers.Tie as tie
+
+-- from the count back to the listing that it is of
+abbrev listed : tie.After-known-told → tie.After-list
+listed c = c .before .before .before .before
+
+-- what is counted
+counted : (c : tie.After-known-told) → at (c .before .c .given .0 .0) ≡ paperListed (listed c .list .result)
+counted c = sym (ap paperListed (c .before .c .given .1))
+
+low : (c : tie.After-known-told) → c .before .c .given .0 .0 < 4294967299
+low c = count-low _ _ _ _ _ _ _ _ (counted c ∙ listed c .list .ensures .0)
+
+list-requires : tie.Need-list-requires
+list-requires c κs = search needs
+
+enum-known-c : tie.Need-enum-known-c
+enum-known-c c = search needs
+
+cast-result : tie.Need-cast-result
+cast-result c = let l = low c in record { sfits = omega arith }
+
+enum-known-k : tie.Need-enum-known-k
+enum-known-k c = search needs
+
+refused-requires : tie.Need-refused-requires
+refused-requires c κs = search needs
+
+same-length : tie.Need-same-length
+same-length c = search needs
+
+returns : tie.Need-returns
+returns c =
+    let l = low c in
+    let e = listed c .list .ensures in
+    (toZ-pos w64 _ (omega arith) ∙ ap wireOf (counted c ∙ e .0), e .1)
+
+same-length-2 : tie.Need-same-length-2
+same-length-2 c = search needs
+
+returns-2 : tie.Need-returns-2
+returns-2 c =
+    let k = c .before .before in
+    let e = k .before .before .before .list .ensures in
+    let r = sym (ap paperListed (k .k .given .1)) ∙ e .0 in
+    (toZ-ofZ w64 _ (record { sfits = c .refused .ok }) ∙ c .refused .ensures ∙ ap wireOf r, e .1)
+
+pub to-numbers-spec : {M : Type 1} → statement M
+to-numbers-spec =
+    tie.close
+    (tie.spec
+    list-requires
+    enum-known-c
+    cast-result
+    enum-known-k
+    refused-requires
+    same-length
+    returns
+    same-length-2
+    returns-2)

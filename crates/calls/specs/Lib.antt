@@ -1,3 +1,0 @@
-pub mod Searches
-pub mod Composed
-pub mod Handles

@@ -1,0 +1,18 @@
+-- `seek::last` meets its contract: what last_child answers, refusals 1 to 5 among it, opens the listing. Assumes nothing.
+use borrow.Author.Needs.{needs}
+use Rattle.list_slice.specs.Seek.{sought}
+use Rattle.list_slice.proofs.seek.last.Statement.{statement}
+use Rattle.list_slice.proofs.seek.last.Tie as tie
+
+last-child-requires : tie.Need-last-child-requires
+last-child-requires c κs = search needs
+
+opening-requires : tie.Need-opening-requires
+opening-requires c κs = search needs
+
+returns : tie.Need-returns
+unfolding sought
+returns c = rw (c .before .last-child .ensures .0) at (c .opening .ensures)
+
+pub last-spec : {M : Type 1} → statement M
+last-spec = tie.close (tie.spec last-child-requires opening-requires returns)

@@ -1,0 +1,2 @@
+pub mod Seek
+pub mod WholeListing

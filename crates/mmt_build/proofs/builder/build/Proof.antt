@@ -1,0 +1,50 @@
+-- `mmt::build` meets its contract: a shut gate is the refusal and keeps the nodes, an open one writes them. Assumes nothing.
+use mathlib.Core.Path.{_≡_, sym, _∙_}
+use lib.ListN.{length}
+use borrow.Author.Needs.{needs}
+use Rattle.row.specs.declared.gate.Gate.{Gate}
+use Rattle.row.specs.declared.gate.Gate.the-variants.{Pass, Refuse}
+use Rattle.mmt_layout.specs.Layout.{nodesGate}
+use Rattle.mmt_layout.proofs.Admitted.{gate-fine}
+use Rattle.mmt_build.proofs.Filled.{when-passed, build-refused}
+use Rattle.mmt_build.proofs.builder.build.Statement.{statement}
+use Rattle.mmt_build.proofs.builder.build.Tie as tie
+
+-- what the tests say
+abbrev gate : tie.After-admit → Gate
+gate c = let a = c .before .before .args in nodesGate (length (a .words .now)) (a .n) (length (a .nodes .now)) (a .block)
+
+-- in the arm that writes, they are passed
+passed : (c : tie.After-enum-told) → gate (c .before .before) ≡ Pass
+passed c = sym (c .before .before .admit .ensures) ∙ c .enum-told .given .1
+
+admit-requires : tie.Need-admit-requires
+admit-requires c κs = search needs
+
+enum-known-k : tie.Need-enum-known-k
+enum-known-k c = search needs
+
+enum-told : tie.Need-enum-told
+enum-told c = search needs
+
+fill-requires : tie.Need-fill-requires
+fill-requires c κs = gate-fine _ _ _ _ (passed (c .before))
+
+returns : tie.Need-returns
+returns c =
+    let b = c .before .before .before in
+    let g : gate b ≡ Refuse (c .before .k .given .0 .0) = sym (b .admit .ensures) ∙ c .before .k .given .1 in
+    (simp g, build-refused _ _ _ _ _ g)
+
+same-length : tie.Need-same-length
+same-length c = search needs
+
+returns-2 : tie.Need-returns-2
+returns-2 c =
+    let g = passed (c .before .before .before) in
+    (simp g, c .before .fill .ensures ∙ when-passed _ _ _ _ g)
+
+pub build-spec : {M : Type 1} → statement M
+build-spec =
+    tie.close
+    (tie.spec admit-requires enum-known-k enum-told fill-requires returns same-length returns-2)

@@ -1,0 +1,84 @@
+-- `mmt::all_wanted` meets its contract. The loop's invariant: the nodes from k on are as built, so that those below k decide. The
+-- measure is k. Assumes nothing.
+use mathlib.Core.Path.{_≡_, sym, ap₂, _∙_}
+use Prim.Native.Nat.{_-_}
+use borrow.Author.Needs.{needs}
+use borrow.Author.Tests.{not-true, not-false}
+use native.Mathlib.Omega.{arith}
+use Rattle.mmt_build.specs.Check.{sameSummary}
+use Rattle.mmt_build.proofs.Tested.{nodeTest, Checked, start, down, differs, done}
+use Rattle.mmt_build.proofs.check.all_wanted.Statement.{statement}
+use Rattle.mmt_build.proofs.check.all_wanted.Tie as tie
+
+abbrev Inv-loop : tie.InvT-loop
+Inv-loop t words n nodes block first all k₀ k = Checked words n nodes block k
+
+abbrev μ-loop : tie.MeasureT-loop
+μ-loop t words n nodes block first all k₀ k = k
+
+-- the entry, from the loop, and the loop, from where two nodes' numbers are compared
+abbrev entry : tie.At-loop Inv-loop μ-loop → tie.Start Inv-loop μ-loop
+entry t = t .before .before
+
+abbrev top : tie.After-same Inv-loop μ-loop → tie.At-loop Inv-loop μ-loop
+top c = c .before .before .before .before
+
+loop-holds : tie.Need-loop-holds Inv-loop μ-loop
+loop-holds c = let a = c .before .args in rw (c .before .pre .1 .1 .1) (start (a .words .now) (a .n) (a .nodes .now) (a .block))
+
+sub-k : tie.Need-sub-k Inv-loop μ-loop
+sub-k c = search needs
+
+wanted-requires : tie.Need-wanted-requires Inv-loop μ-loop
+wanted-requires c κs =
+    let p = entry (c .before) .pre in
+    let v = c .before .loop .inv in
+    (p .0, (p .1 .0, ((p .1 .1 .0, p .1 .1 .1, omega arith), λ j o i. v .ruled j (omega arith) i)))
+
+node-at-requires : tie.Need-node-at-requires Inv-loop μ-loop
+node-at-requires c κs = search needs
+
+same-requires : tie.Need-same-requires Inv-loop μ-loop
+same-requires c κs = search needs
+
+-- what the test of the next node down found
+found : (c : tie.After-same Inv-loop μ-loop) → let a = entry (top c) .args in
+    c .same .result ≡ nodeTest (a .words .now) (a .n) (a .nodes .now) (a .block) (top c .loop .k - 1)
+found c = c .same .ensures ∙ ap₂ sameSummary (c .before .node-at .ensures) (c .before .before .wanted .ensures)
+
+returns : tie.Need-returns Inv-loop μ-loop
+returns c =
+    let a = entry (top (c .before)) .args in
+    let l = top (c .before) .loop in
+    differs (a .words .now) (a .n) (a .nodes .now) (a .block) (l .k) (l .k - 1) (omega arith) (l .inv) (sym (found (c .before)) ∙ not-true _ (c .if1 .taken))
+
+loop-less : tie.Need-loop-less Inv-loop μ-loop
+loop-less c = search needs
+
+loop-again : tie.Need-loop-again Inv-loop μ-loop
+loop-again c =
+    let a = entry (top (c .before)) .args in
+    let l = top (c .before) .loop in
+    down (a .words .now) (a .n) (a .nodes .now) (a .block) (l .k) (l .k - 1) (omega arith) (l .inv) (sym (found (c .before)) ∙ not-false _ (c .if1 .left))
+
+returns-2 : tie.Need-returns-2 Inv-loop μ-loop
+returns-2 c =
+    let a = entry (c .before) .args in
+    let l = c .before .loop in
+    done (a .words .now) (a .n) (a .nodes .now) (a .block) (l .k) (omega arith) (l .inv)
+
+pub all-wanted-spec : {M : Type 1} → statement M
+all-wanted-spec =
+    tie.close
+    (tie.spec
+    Inv-loop
+    μ-loop
+    loop-holds
+    sub-k
+    wanted-requires
+    node-at-requires
+    same-requires
+    returns
+    loop-less
+    loop-again
+    returns-2)

@@ -1,0 +1,34 @@
+-- `mmt::leaf_summary` meets its contract: the bits of block b, up to n. Assumes nothing.
+use mathlib.Core.Path.{_≡_}
+use Prim.Native.Nat.{_-_, _*_, min}
+use borrow.Author.Needs.{needs}
+use native.Mathlib.Omega.{arith}
+use Rattle.mmt_node.specs.Nodes.{leafOf}
+use Rattle.mmt_layout.proofs.Powers.{block-edge}
+use Rattle.mmt_build.proofs.rule.leaf_summary.Statement.{statement}
+use Rattle.mmt_build.proofs.rule.leaf_summary.Tie as tie
+
+mul-from : tie.Need-mul-from
+mul-from c = search needs
+
+add-earlier : tie.Need-add-earlier
+add-earlier c = search needs
+
+earlier-requires : tie.Need-earlier-requires
+earlier-requires c κs = search needs
+
+stretch-summary-requires : tie.Need-stretch-summary-requires
+stretch-summary-requires c κs =
+    let s = c .before .before in
+    (s .pre .0, (record { order = omega arith; inside = omega arith; short = omega arith }, (block-edge (s .args .b) (s .args .block) (omega arith), omega arith)))
+
+returns : tie.Need-returns
+unfolding leafOf
+returns c =
+    let s = c .before .before .before .args in
+    let a = s .b * s .block in
+    let e : c .before .earlier .result - a ≡ min (s .block) (s .n - a) = omega arith in
+    rw e at (c .stretch-summary .ensures)
+
+pub leaf-summary-spec : {M : Type 1} → statement M
+leaf-summary-spec = tie.close (tie.spec mul-from add-earlier earlier-requires stretch-summary-requires returns)

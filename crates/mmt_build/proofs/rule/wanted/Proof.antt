@@ -1,0 +1,54 @@
+-- `mmt::wanted` meets its contract: an inner node from those after it, which are small because they are as built; a leaf from
+-- its bits. Assumes nothing.
+use mathlib.Core.Path.{sym, ap, _∙_}
+use Prim.Native.Nat.{ℕ, _+_, _-_, _*_, _≤_, _<_}
+use native.Mathlib.Omega.{arith}
+use Rattle.mmt_layout.specs.Layout.{inner, count}
+use Rattle.mmt_node.specs.Nodes.{nodeAt, leafOf, innerOf}
+use Rattle.mmt_layout.proofs.Admitted.{counted}
+use Rattle.mmt_node.proofs.Nodes.{from-inner, from-leaf}
+use Rattle.mmt_layout.proofs.Places.{leaf-in}
+use Rattle.mmt_node.proofs.Covered.{ruled-tame}
+use Rattle.mmt_build.proofs.rule.wanted.Statement.{statement}
+use Rattle.mmt_build.proofs.rule.wanted.Tie as tie
+
+-- the node is one of the layout's
+within : (c : tie.Start) → c .args .k < count (c .args .n) (c .args .block)
+within c = let e = c .pre .1 .1 .0 in omega arith
+
+inner-summary-requires : tie.Need-inner-summary-requires
+inner-summary-requires c κs =
+    let s = c .before .before in
+    let a = s .args in
+    let f = s .pre .1 .0 in
+    let e = s .pre .1 .1 .0 in
+    let some = counted (a .n) (a .block) (a .k) (within s) in
+    (omega arith, λ j l i. ruled-tame (a .words .now) (a .n) (a .nodes .now) (a .block) (omega arith) some (a .k + 1) (s .pre .1 .1 .1) (f .short) j (omega arith) (omega arith))
+
+returns : tie.Need-returns
+returns c =
+    let s = c .before .before .before in
+    let e = s .pre .1 .1 .0 in
+    c .inner-summary .ensures
+    ∙ ap (λ (m : ℕ). innerOf m (nodeAt (s .args .nodes .now)) (s .args .k)) (e .1)
+    ∙ sym (from-inner (s .args .words .now) (s .args .n) (s .args .block) (nodeAt (s .args .nodes .now)) (s .args .k) (omega arith))
+
+leaf-summary-requires : tie.Need-leaf-summary-requires
+leaf-summary-requires c κs =
+    let s = c .before .before in
+    let f = s .pre .1 .0 in
+    let e = s .pre .1 .1 .0 in
+    let l : inner (s .args .n) (s .args .block) ≤ s .args .k = omega arith in
+    let i : (s .args .k - s .args .first) * s .args .block < s .args .n = rw (e .0) (leaf-in (s .args .n) (s .args .block) (s .args .k) (omega arith) (within s) l) in
+    (s .pre .0, ((f .short, f .words), (f .eight, f .small, f .eights, i)))
+
+returns-2 : tie.Need-returns-2
+returns-2 c =
+    let s = c .before .before .before in
+    let e = s .pre .1 .1 .0 in
+    c .leaf-summary .ensures
+    ∙ ap (λ (i : ℕ). leafOf (s .args .words .now) (s .args .n) (s .args .block) (s .args .k - i)) (e .0)
+    ∙ sym (from-leaf (s .args .words .now) (s .args .n) (s .args .block) (nodeAt (s .args .nodes .now)) (s .args .k) (omega arith))
+
+pub wanted-spec : {M : Type 1} → statement M
+wanted-spec = tie.close (tie.spec inner-summary-requires returns leaf-summary-requires returns-2)

@@ -1,0 +1,98 @@
+// The build: the leaves from their bits, then the levels above from their children.
+ghost use mathlib.Core.Path.{_≡_};
+ghost use mathlib.Core.List.{_++_};
+ghost use Prim.Native.Nat.{_*_, _%_, _≤_};
+ghost use lib.ListN.{length, drop};
+ghost use Rattle.row.specs.Answer.{at, paperBuilt};
+ghost use Rattle.row.specs.Gates.{through};
+ghost use Rattle.bits_lookup.specs.Table.{IsTable};
+ghost use Rattle.mmt_layout.specs.Layout.{width, leaves, inner, count, nodesGate, Fine};
+ghost use Rattle.mmt_node.specs.Nodes.{Ruled, written};
+ghost use Rattle.mmt_build.specs.Build.{builtNodes};
+ghost use Rattle.mmt_build.specs.Filling.{Filled, Leveled};
+use crate::rule::leaf_summary;
+use crate::rule::wanted;
+use bits_lookup::Lookup;
+use mmt_layout::WIDTH;
+use mmt_layout::admit;
+use mmt_layout::layout_of;
+use mmt_node::put_node;
+use row::Built;
+use row::Gate;
+
+// The leaves. They are lent as a part of their own, which has room for them and no more.
+fn fill_leaves(t: &Lookup, words: &[u64], n: usize, block: usize, part: &mut [i64])
+    requires { ⌜ IsTable (now t) ⌝ }
+    requires { ⌜ (n ≤ 4294967296) × (n ≤ 64 * length (now words)) ⌝ }
+    requires { ⌜ (8 ≤ block) × (block ≤ 65536) × (block % 8 ≡ 0) ⌝ }
+    requires { ⌜ length (now part) ≡ width * leaves n block ⌝ }
+    ensures { λ r. ⌜ Filled (now (words .entry)) n block (leaves n block) (now (part .exit)) ⌝ }
+{
+    let l = part.len() / WIDTH;
+    let mut b = 0;
+    while b < l {
+        put_node(part, b, leaf_summary(t, words, n, block, b));
+        b += 1;
+    }
+}
+
+// The inner nodes, from the last to the first: children have greater numbers, so they stand when they are asked.
+fn fill_levels(
+    t: &Lookup,
+    words: &[u64],
+    n: usize,
+    nodes: &mut [i64],
+    block: usize,
+    first: usize,
+    all: usize,
+)
+    requires { ⌜ IsTable (now t) ⌝ }
+    requires { ⌜ Fine (length (now words)) n (length (now nodes)) block ⌝ }
+    requires { ⌜ (first ≡ inner n block) × (all ≡ count n block) ⌝ }
+    requires { ⌜ Ruled (now words) n (now nodes) block first ⌝ }
+    ensures { λ r. ⌜ Leveled (now (words .entry)) n (now (nodes .entry)) block 0 (now (nodes .exit)) ⌝ }
+{
+    let mut k = first;
+    while 0 < k {
+        k -= 1;
+        let x = wanted(t, words, n, nodes, block, first, all, k);
+        put_node(nodes, k, x);
+    }
+}
+
+// All nodes of the layout: the leaves' part is lent on and filled, then the levels above it.
+fn fill_nodes(words: &[u64], n: usize, nodes: &mut [i64], block: usize, first: usize, all: usize)
+    requires { ⌜ Fine (length (now words)) n (length (now nodes)) block ⌝ }
+    requires { ⌜ (first ≡ inner n block) × (all ≡ count n block) ⌝ }
+    ensures { λ r. ⌜ now (nodes .exit) ≡ written (now (words .entry)) n block ++ drop (width * count n block) (now (nodes .entry)) ⌝ }
+{
+    let start = WIDTH * first;
+    let end = WIDTH * all;
+    let t = bits_lookup::table();
+    fill_leaves(&t, words, n, block, &mut nodes[start..end]);
+    fill_levels(&t, words, n, nodes, block, first, all);
+}
+
+fn fill(words: &[u64], n: usize, nodes: &mut [i64], block: usize)
+    requires { ⌜ Fine (length (now words)) n (length (now nodes)) block ⌝ }
+    ensures { λ r. ⌜ now (nodes .exit) ≡ written (now (words .entry)) n block ++ drop (width * count n block) (now (nodes .entry)) ⌝ }
+{
+    let lay = layout_of(n, block);
+    let first = lay.inner;
+    let all = first + lay.leaves;
+    fill_nodes(words, n, nodes, block, first, all);
+}
+
+// Writes the nodes of n bits in blocks. What stands past them stays; a refusal leaves all.
+pub fn build(words: &[u64], n: usize, nodes: &mut [i64], block: usize) -> Built
+    ensures { λ a. ⌜ paperBuilt a ≡ through (nodesGate (length (now (words .entry))) n (length (now (nodes .entry))) block) (at 0) ⌝ }
+    ensures { λ a. ⌜ now (nodes .exit) ≡ builtNodes (now (words .entry)) n (now (nodes .entry)) block ⌝ }
+{
+    match admit(words.len(), n, nodes.len(), block) {
+        Gate::Refuse(k) => Built::Refused(k),
+        Gate::Pass => {
+            fill(words, n, nodes, block);
+            Built::Done
+        }
+    }
+}

@@ -1,0 +1,75 @@
+// The test that a buffer is the one that a build writes, without a second buffer: each node against its bits, or against the
+// join of its children as they stand. From the last node to the first, so that the children have been found right before.
+ghost use mathlib.Core.Path.{_≡_};
+ghost use lib.ListN.{length};
+ghost use Rattle.row.specs.Answer.{paperTold};
+ghost use Rattle.bits_lookup.specs.Table.{IsTable};
+ghost use Rattle.mmt_layout.specs.Layout.{inner, count, Fine};
+ghost use Rattle.mmt_build.specs.Check.{sameSummary, builtTest, asBuiltAnswer, DecidesBuilt};
+use crate::rule::wanted;
+use bits_lookup::Lookup;
+use bits_stretch::Summary;
+use mmt_layout::admit;
+use mmt_layout::layout_of;
+use mmt_node::node_at;
+use row::Gate;
+use row::Told;
+
+fn same(x: Summary, y: Summary) -> bool
+    ensures { λ b. ⌜ b ≡ sameSummary x y ⌝ }
+{
+    x.total == y.total && x.least == y.least && x.greatest == y.greatest
+}
+
+fn all_wanted(
+    t: &Lookup,
+    words: &[u64],
+    n: usize,
+    nodes: &[i64],
+    block: usize,
+    first: usize,
+    all: usize,
+) -> bool
+    requires { ⌜ IsTable (now t) ⌝ }
+    requires { ⌜ Fine (length (now words)) n (length (now nodes)) block ⌝ }
+    requires { ⌜ (first ≡ inner n block) × (all ≡ count n block) ⌝ }
+    ensures { λ b. ⌜ b ≡ builtTest (now (words .entry)) n (now (nodes .entry)) block ⌝ }
+{
+    let mut k = all;
+    while 0 < k {
+        k -= 1;
+        let x = wanted(t, words, n, nodes, block, first, all, k);
+        if !same(node_at(nodes, k), x) {
+            return false;
+        }
+    }
+    true
+}
+
+fn is_as_built(words: &[u64], n: usize, nodes: &[i64], block: usize) -> bool
+    requires { ⌜ Fine (length (now words)) n (length (now nodes)) block ⌝ }
+    ensures { λ b. ⌜ b ≡ builtTest (now (words .entry)) n (now (nodes .entry)) block ⌝ }
+{
+    let lay = layout_of(n, block);
+    let first = lay.inner;
+    let all = first + lay.leaves;
+    let t = bits_lookup::table();
+    all_wanted(&t, words, n, nodes, block, first, all)
+}
+
+// Whether the buffer begins with the nodes that a build writes: yes or no, after refusals 1 to 4.
+pub fn as_built(words: &[u64], n: usize, nodes: &[i64], block: usize) -> Told
+    ensures { λ a. ⌜ paperTold a ≡ asBuiltAnswer (now (words .entry)) n (now (nodes .entry)) block ⌝ }
+    ensures { λ a. ⌜ DecidesBuilt (now (words .entry)) n (now (nodes .entry)) block a ⌝ }
+{
+    match admit(words.len(), n, nodes.len(), block) {
+        Gate::Refuse(k) => Told::Refused(k),
+        Gate::Pass => {
+            if is_as_built(words, n, nodes, block) {
+                Told::Yes
+            } else {
+                Told::No
+            }
+        }
+    }
+}

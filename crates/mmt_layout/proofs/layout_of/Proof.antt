@@ -1,0 +1,35 @@
+-- `layout::layout_of` meets its contract: no nodes for no bits, else the two counts. Assumes nothing.
+use mathlib.Core.Path.{_∙_}
+use native.Mathlib.Omega.{arith}
+use borrow.Author.Needs.{needs}
+use Rattle.mmt_layout.specs.Layout.{leaves}
+use Rattle.mmt_layout.proofs.Powers.{leaves-small}
+use Rattle.mmt_layout.proofs.Admitted.{layout-none, layout-some}
+use Rattle.mmt_layout.proofs.layout_of.Statement.{statement}
+use Rattle.mmt_layout.proofs.layout_of.Tie as tie
+
+returns : tie.Need-returns
+returns c = layout-none _ _ (c .if1 .taken)
+
+sub-l : tie.Need-sub-l
+sub-l c = search needs
+
+add-l : tie.Need-add-l
+add-l c = search needs
+
+div-l : tie.Need-div-l
+div-l c = search needs
+
+inner-for-requires : tie.Need-inner-for-requires
+unfolding leaves
+inner-for-requires c κs = let s = c .before in leaves-small (s .args .n) (s .args .block) (omega arith) (omega arith)
+
+returns-2 : tie.Need-returns-2
+unfolding leaves
+returns-2 c =
+    let n = c .before .before .args .n in
+    let B = c .before .before .args .block in
+    (λ i. record { leaves = leaves n B; inner = c .inner-for .ensures i }) ∙ layout-some n B (c .before .if1 .left)
+
+pub layout-of-spec : {M : Type 1} → statement M
+layout-of-spec = tie.close (tie.spec returns sub-l add-l div-l inner-for-requires returns-2)

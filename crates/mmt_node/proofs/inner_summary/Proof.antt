@@ -1,0 +1,63 @@
+-- `node::inner_summary` meets its contract: two children, one or none. Assumes nothing.
+use mathlib.Core.Path.{ap₂, _∙_}
+use native.Mathlib.Omega.{arith}
+use borrow.Author.Needs.{needs}
+use Rattle.bits_stretch.specs.Summary.{none, joinOf}
+use Rattle.mmt_node.specs.Nodes.{nodeAt}
+use Rattle.mmt_node.proofs.Nodes.{inner-both, inner-left, inner-none}
+use Rattle.mmt_node.proofs.inner_summary.Statement.{statement}
+use Rattle.mmt_node.proofs.inner_summary.Tie as tie
+
+mul-left : tie.Need-mul-left
+mul-left c = search needs
+
+add-left : tie.Need-add-left
+add-left c = search needs
+
+mul-right : tie.Need-mul-right
+mul-right c = search needs
+
+add-right : tie.Need-add-right
+add-right c = search needs
+
+node-at-requires : tie.Need-node-at-requires
+node-at-requires c κs = search needs
+
+node-at-requires-2 : tie.Need-node-at-requires-2
+node-at-requires-2 c κs = search needs
+
+join-requires : tie.Need-join-requires
+join-requires c κs =
+    let s = c .before .before .before in
+    (rw (c .before .node-at .ensures) (s .pre .1 _ (omega arith) (omega arith)), rw (c .node-at2 .ensures) (s .pre .1 _ (omega arith) (omega arith)))
+
+returns : tie.Need-returns
+returns c = c .join .ensures ∙ ap₂ joinOf (c .before .before .node-at .ensures) (c .before .node-at2 .ensures) ∙ inner-both _ _ _ (c .before .before .before .if1 .taken)
+
+node-at-requires-3 : tie.Need-node-at-requires-3
+node-at-requires-3 c κs = search needs
+
+returns-2 : tie.Need-returns-2
+returns-2 c =
+    let s = c .before .before .before .args in
+    c .node-at3 .ensures ∙ inner-left (s .count) (nodeAt (s .nodes .now)) (s .k) (omega arith) (c .before .if2 .taken)
+
+returns-3 : tie.Need-returns-3
+unfolding none
+returns-3 c = let s = c .before .before .args in inner-none (s .count) (nodeAt (s .nodes .now)) (s .k) (omega arith)
+
+pub inner-summary-spec : {M : Type 1} → statement M
+inner-summary-spec =
+    tie.close
+    (tie.spec
+    mul-left
+    add-left
+    mul-right
+    add-right
+    node-at-requires
+    node-at-requires-2
+    join-requires
+    returns
+    node-at-requires-3
+    returns-2
+    returns-3)

@@ -1,3 +1,0 @@
-pub mod Sought
-pub mod Below
-pub mod Opened
