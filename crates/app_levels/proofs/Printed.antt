@@ -12,6 +12,7 @@ use borrow.Author.Tests.{leb-true}
 use lib.Dec.{leb, eqb}
 use lib.IntN.{pos}
 use lib.ListN.{length, replicate, length-append}
+use Rattle.row.specs.Limits.{maxShortBits}
 use Rattle.row.specs.Answer.{Answer, at, nothing, refused}
 use Rattle.row.specs.Gates.{through}
 use Rattle.row.specs.Tree.{OneTree, oneTree}
@@ -28,13 +29,13 @@ use Rattle.app_line.proofs.Line.{words-read}
 use Rattle.app_levels.specs.Shown.{refusedText, refusalLine}
 use Rattle.app_levels.specs.Levels.{linesFor, treeLines}
 use Rattle.app_levels.specs.Outline.{definedLines}
-use Rattle.app_levels.specs.Printed.{blankWords, printed}
+use Rattle.app_levels.specs.Printed.{blankWords, printed, pageBytes}
 use Rattle.app_levels.proofs.Outline.{tree-is}
 use Rattle.app_levels.proofs.Room.{refusal-fits, page-fits}
 
 -- what a line is that is not refused
 pub record Taken (s ws : List ℕ) (n : ℕ) : Type 0 where
-  pub short : n ≤ 4096
+  pub short : n ≤ maxShortBits
   pub tree : OneTree (lineWords s ws) n
 
 -- a line is taken, or refused by a number of one digit
@@ -45,12 +46,12 @@ Outcome s ws (refused k) = k < 10
 
 outcome : (s ws : List ℕ) → Outcome s ws (inputAnswer s ws)
 unfolding inputAnswer
-outcome s ws = by (leb (lineEnd s) 4096) refl (allParentheses (line s)) refl (oneTree (textWords (line s) ws) (lineEnd s)) refl
+outcome s ws = by (leb (lineEnd s) maxShortBits) refl (allParentheses (line s)) refl (oneTree (textWords (line s) ws) (lineEnd s)) refl
   where
-    by : (a : Bool) → leb (lineEnd s) 4096 ≡ a → (b : Bool) → allParentheses (line s) ≡ b
+    by : (a : Bool) → leb (lineEnd s) maxShortBits ≡ a → (b : Bool) → allParentheses (line s) ≡ b
         → (c : Bool) → oneTree (textWords (line s) ws) (lineEnd s) ≡ c → Outcome s ws (inputAnswer s ws)
     by true p true q true o =
-        let l = leb-true (lineEnd s) 4096 p in
+        let l = leb-true (lineEnd s) maxShortBits p in
         let t = oneTree-true (lineWords s ws) (lineEnd s) (rw (← words-read s ws l) o) in
         rw (p, q, o) (record { short = l; tree = t })
     by true p true q false o = rw (p, q, o) (omega arith)
@@ -61,7 +62,7 @@ pub input-taken : (s ws : List ℕ) (n : ℕ) → at n ≡ inputAnswer s ws → 
 input-taken s ws n h = rw (← h) at (outcome s ws)
 
 -- 64 leaves and 63 nodes above them
-few-nodes : (n : ℕ) → n ≤ 4096 → width * count n 64 ≤ 381
+few-nodes : (n : ℕ) → n ≤ maxShortBits → width * count n 64 ≤ 381
 unfolding layoutOf leaves
 few-nodes n h = by (eqb n 0) refl
   where
@@ -69,7 +70,7 @@ few-nodes n h = by (eqb n 0) refl
     by true e = rw e (omega arith)
     by false e = let l : leaves n 64 ≤ 64 = omega (arith, h) in rw e (omega (arith, l, inner-small (leaves n 64) 6 (omega arith) l))
 
-room-for : (ws : List ℕ) (n : ℕ) → length ws ≡ 64 → n ≤ 4096 → Fine (length ws) n 381 64
+room-for : (ws : List ℕ) (n : ℕ) → length ws ≡ 64 → n ≤ maxShortBits → Fine (length ws) n 381 64
 room-for ws n w h = record {
   eight = omega arith;
   eights = refl;
@@ -79,11 +80,11 @@ room-for ws n w h = record {
   nodes = few-nodes n h;
 }
 
-pub not-refused : (ws : List ℕ) (n k : ℕ) → length ws ≡ 64 → n ≤ 4096 → refused k ≡ through (nodesGate (length ws) n 381 64) (at 0) → ⊥
+pub not-refused : (ws : List ℕ) (n k : ℕ) → length ws ≡ 64 → n ≤ maxShortBits → refused k ≡ through (nodesGate (length ws) n 381 64) (at 0) → ⊥
 not-refused ws n k w h q = let e : _≡_ {A = ℕ} 0 1 = cc (fine-gate (length ws) n 381 64 (room-for ws n w h), q) in omega (arith, e)
 
 -- over the nodes that the program builds the answers are the definitions'
-pub built-lines : (ws : List ℕ) (n : ℕ) → length ws ≡ 64 → n ≤ 4096 → OneTree ws n
+pub built-lines : (ws : List ℕ) (n : ℕ) → length ws ≡ 64 → n ≤ maxShortBits → OneTree ws n
     → treeLines ws n (builtNodes ws n (replicate 381 (pos 0)) 64) ≡ definedLines ws n
 built-lines ws n w h t =
     let s = replicate 381 (pos 0) in
@@ -100,11 +101,11 @@ module _ (s : List ℕ) where
   printed-refused k h = ap (λ a. linesFor a (definedLines (lineWords s blankWords))) h
 
   -- nothing that is printed is longer than a page of 65,536 bytes
-  pub printed-fits : length (printed s) ≤ 65536
+  pub printed-fits : length (printed s) ≤ pageBytes
   unfolding printed
   printed-fits = by (inputAnswer s blankWords) (outcome s blankWords)
     where
-      by : (a : Answer) → Outcome s blankWords a → length (linesFor a (definedLines (lineWords s blankWords))) ≤ 65536
+      by : (a : Answer) → Outcome s blankWords a → length (linesFor a (definedLines (lineWords s blankWords))) ≤ pageBytes
       by (at n) i = page-fits (lineWords s blankWords) n (i .short) (i .tree)
       by nothing i = omega arith
       by (refused k) i = omega (arith, refusal-fits k i, length-append (refusedText k) (10 ∷ []))

@@ -14,6 +14,8 @@ use borrow.Author.Tests.{ltb-false, lt-ltb}
 use lib.Dec.{ltb}
 use lib.IntN.{pos}
 use lib.ListN.{length, length-append}
+use Rattle.app_levels.specs.Printed.{pageBytes}
+use Rattle.row.specs.Limits.{maxShortBits}
 use Rattle.io.specs.Digits.{digits}
 use Rattle.ints.proofs.Shapes.{zsum}
 use Rattle.row.specs.Answer.{Answer, at, nothing, refused}
@@ -72,10 +74,10 @@ cell-fits t b m h = omega (arith, h, length-append t (b ∷ []))
 joined : (t u : List ℕ) (a b : ℕ) → length t ≤ a → length u ≤ b → length (t ++ u) ≤ a + b
 joined t u a b h l = omega (arith, h, l, length-append t u)
 
-short : (x : ℕ) → x ≤ 4096 → length (decimalOf x) ≤ 4
+short : (x : ℕ) → x ≤ maxShortBits → length (decimalOf x) ≤ 4
 short x h = decimal-fits x 4 (omega (arith, h)) (omega arith) (omega arith)
 
-module _ (ws : List ℕ) (n : ℕ) (few : n ≤ 4096) where
+module _ (ws : List ℕ) (n : ℕ) (few : n ≤ maxShortBits) where
   line-fits : (k v : ℕ) → k < n → v < n → length (definedLine ws n k v) ≤ 30
   unfolding definedLine
   line-fits k v h l =
@@ -184,7 +186,7 @@ module _ (ws : List ℕ) (n : ℕ) where
       let o = rw (zero-add n) at (opens-ones n 0 (omega arith)) in
       omega (arith, e, o, tally-few n 0 k f)
 
-  levels-fit : n ≤ 4096 → (k f : ℕ) → k + f ≤ n → length (definedLevels ws n k f) ≤ 30 * tally n 0 k f
+  levels-fit : n ≤ maxShortBits → (k f : ℕ) → k + f ≤ n → length (definedLevels ws n k f) ≤ 30 * tally n 0 k f
   unfolding definedLevels tally
   levels-fit few k zero h = omega arith
   levels-fit few k (suc f) h =
@@ -192,7 +194,7 @@ module _ (ws : List ℕ) (n : ℕ) where
       let two = levels-fit few (suc k) f (omega (arith, h)) in
       omega (arith, one, two, length-append (linesOf (definedLine ws n k) (level ws n k)) (definedLevels ws n (suc k) f))
 
-  pub page-fits : n ≤ 4096 → OneTree ws n → length (definedLines ws n) ≤ 65536
+  pub page-fits : n ≤ maxShortBits → OneTree ws n → length (definedLines ws n) ≤ pageBytes
   unfolding definedLines
   page-fits few t =
       let one = cell-fits (decimalOf (n / 2)) 32 4 (short (n / 2) (omega (arith, few))) in

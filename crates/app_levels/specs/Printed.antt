@@ -11,6 +11,10 @@ use Rattle.app_levels.specs.Outline.{definedLines}
 abbrev pub blankWords : List ℕ
 blankWords = replicate 64 0
 
+-- the size of a page in bytes
+abbrev pub pageBytes : ℕ
+pageBytes = 65536
+
 -- all that is printed
 unfoldable pub printed : List ℕ → List ℕ
 printed s = linesFor (inputAnswer s blankWords) (definedLines (lineWords s blankWords))

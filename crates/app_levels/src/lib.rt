@@ -8,13 +8,16 @@ mod whole;
 
 use libc::STDOUT_FILENO;
 
+// The size of a page in bytes. Every page fits: at most 2,048 lines of at most 30 bytes each.
+const PAGE: usize = 65536;
+
 fn write_page(page: &[u8], at: usize) {
     let count = app_page::filled(page, at);
     io::write_all(STDOUT_FILENO, &page[..count]);
 }
 
 fn answer(bytes: &[u8]) {
-    let mut page = [0u8; 65536];
+    let mut page = [0u8; PAGE];
     let at = whole::put_answer(bytes, &mut page);
     write_page(&page, at);
 }

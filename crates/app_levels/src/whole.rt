@@ -2,9 +2,10 @@
 ghost use mathlib.Core.Path.{_≡_};
 ghost use Prim.Native.Nat.{_≤_};
 ghost use lib.ListN.{length, take};
+ghost use Rattle.row.specs.Limits.{maxShortBits};
 ghost use Rattle.row.specs.Tree.{OneTree};
 ghost use Rattle.app_page.specs.Page.{Adds};
-ghost use Rattle.app_levels.specs.Printed.{printed};
+ghost use Rattle.app_levels.specs.Printed.{printed, pageBytes};
 ghost use Rattle.app_levels.specs.Outline.{definedLines};
 use crate::print::put_refusal;
 use crate::print::put_tree;
@@ -13,7 +14,7 @@ use row::Read;
 
 // The lines of a tree over its nodes, built here: 64 leaves and 63 nodes above them at most, of three numbers each.
 fn put_built(words: &[u64; 64], n: usize, page: &mut [u8]) -> usize
-    requires { ⌜ n ≤ 4096 ⌝ }
+    requires { ⌜ n ≤ maxShortBits ⌝ }
     requires { ⌜ OneTree (now words) n ⌝ }
     ensures { λ r. ⌜ Adds (now (page .entry)) 0 (definedLines (now (words .entry)) n) (now (page .exit)) r ⌝ }
 {
@@ -27,7 +28,7 @@ fn put_built(words: &[u64; 64], n: usize, page: &mut [u8]) -> usize
 // The lines of the tree that the bytes hold, or the one line of a refusal. A page of 65,536 bytes has room for all of them: 2,048 nodes at
 // most, of at most 20 bytes a line, and the first line.
 pub fn put_answer(bytes: &[u8], page: &mut [u8]) -> usize
-    requires { ⌜ 65536 ≤ length (now page) ⌝ }
+    requires { ⌜ pageBytes ≤ length (now page) ⌝ }
     ensures { λ r. ⌜ (r ≡ length (printed (now (bytes .entry)))) × (take r (now (page .exit)) ≡ printed (now (bytes .entry))) ⌝ }
 {
     let mut words = [0u64; 64];

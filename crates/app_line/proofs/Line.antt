@@ -1,8 +1,8 @@
--- The line's end, the line that is read, and one tree.
---   end-here, end-on, end-done: the line's end from byte i on
---   tree-yes, tree-no, tree-refused, tree-nothing: what the one-tree test told, as the answer to a row
---   line-many, words-many, line-read, words-read: a line that is too long, and one that the text reader is given
---   input-refused, input-tree: the whole answer from the line's and the row's
+-- Laws about the end of a line, the text of a line, and the one-tree test.
+--   end-here, end-on, end-done: the end of the line from byte i on, if byte i is a newline, is another byte, or does not exist
+--   tree-yes, tree-no, tree-refused, tree-nothing: the answer for a row, from each answer of the one-tree test
+--   line-many, words-many: a line that is too long; line-read, words-read: a line that the text reader is passed
+--   input-refused, input-tree: the answer for the input, from the answers for the line and for the row
 -- Assumes nothing.
 use mathlib.Core.Path.{_≡_, refl, _∙_}
 use mathlib.Core.Bool.{Bool, true, false}
@@ -14,6 +14,7 @@ use borrow.Author.Tests.{eq-eqb, ne-eqb, le-leb, lt-leb, leb-true}
 use lib.Dec.{leb}
 use lib.ListN.{length, getD, drop, drop-of-length-le}
 use lib.Seq.{drop-cons}
+use Rattle.row.specs.Limits.{maxShortBits}
 use Rattle.row.specs.declared.gate.Gate.{Gate}
 use Rattle.row.specs.declared.gate.Gate.the-variants.{Pass, Refuse}
 use Rattle.row.specs.Answer.{at, nothing, refused}
@@ -76,20 +77,20 @@ module _ (ws : List ℕ) (n : ℕ) where
       by (Refuse r) g b e = cc (h, g)
 
 module _ (s : List ℕ) where
-  pub line-many : 4096 < lineEnd s → refused 2 ≡ lineAnswer s
+  pub line-many : maxShortBits < lineEnd s → refused 2 ≡ lineAnswer s
   unfolding lineAnswer
-  line-many h = simp (lt-leb (lineEnd s) 4096 h)
+  line-many h = simp (lt-leb (lineEnd s) maxShortBits h)
 
 module _ (s ws : List ℕ) where
-  pub words-many : 4096 < lineEnd s → ws ≡ lineWords s ws
+  pub words-many : maxShortBits < lineEnd s → ws ≡ lineWords s ws
   unfolding lineWords
-  words-many h = simp (lt-leb (lineEnd s) 4096 h)
+  words-many h = simp (lt-leb (lineEnd s) maxShortBits h)
 
-  pub words-read : lineEnd s ≤ 4096 → textWords (line s) ws ≡ lineWords s ws
+  pub words-read : lineEnd s ≤ maxShortBits → textWords (line s) ws ≡ lineWords s ws
   unfolding lineWords
-  words-read h = simp (le-leb (lineEnd s) 4096 h)
+  words-read h = simp (le-leb (lineEnd s) maxShortBits h)
 
-  pub line-read : lineEnd s ≤ 4096 → length (line s) ≡ lineEnd s → length ws ≡ 64 → through (textGate (line s) (length ws)) (at (length (line s))) ≡ lineAnswer s
+  pub line-read : lineEnd s ≤ maxShortBits → length (line s) ≡ lineEnd s → length ws ≡ 64 → through (textGate (line s) (length ws)) (at (length (line s))) ≡ lineAnswer s
   unfolding lineAnswer
   line-read h l w = by (allParentheses (line s)) refl
     where
@@ -97,27 +98,27 @@ module _ (s ws : List ℕ) where
       by true e =
           let o = row-passed (length ws) (length (line s)) (omega (arith, l)) (omega (arith, l, w)) in
           let g : Pass ≡ textGate (line s) (length ws) = o ∙ text-row (line s) (length ws) (omega (arith, l)) e in
-          rw (← g) (simp (le-leb (lineEnd s) 4096 h, e, l))
+          rw (← g) (simp (le-leb (lineEnd s) maxShortBits h, e, l))
       by false e =
           let g = text-other (line s) (length ws) (omega (arith, l)) e in
-          rw (← g) (simp (le-leb (lineEnd s) 4096 h, e))
+          rw (← g) (simp (le-leb (lineEnd s) maxShortBits h, e))
 
   pub input-refused : (k : ℕ) → refused k ≡ lineAnswer s → refused k ≡ inputAnswer s ws
   unfolding lineAnswer inputAnswer
-  input-refused k h = by (leb (lineEnd s) 4096) refl (allParentheses (line s)) refl
+  input-refused k h = by (leb (lineEnd s) maxShortBits) refl (allParentheses (line s)) refl
     where
-      by : (a : Bool) → leb (lineEnd s) 4096 ≡ a → (b : Bool) → allParentheses (line s) ≡ b → refused k ≡ inputAnswer s ws
+      by : (a : Bool) → leb (lineEnd s) maxShortBits ≡ a → (b : Bool) → allParentheses (line s) ≡ b → refused k ≡ inputAnswer s ws
       by true p true q = cc (h, p, q)
       by true p false q = cc (h, p, q)
       by false p b q = cc (h, p)
 
   pub input-tree : (n : ℕ) → 64 ≡ length (lineWords s ws) → at n ≡ lineAnswer s → treeAnswer (lineWords s ws) n ≡ inputAnswer s ws
   unfolding lineAnswer inputAnswer treeAnswer
-  input-tree n w h = by (leb (lineEnd s) 4096) refl (allParentheses (line s)) refl
+  input-tree n w h = by (leb (lineEnd s) maxShortBits) refl (allParentheses (line s)) refl
     where
-      by : (a : Bool) → leb (lineEnd s) 4096 ≡ a → (b : Bool) → allParentheses (line s) ≡ b → treeAnswer (lineWords s ws) n ≡ inputAnswer s ws
+      by : (a : Bool) → leb (lineEnd s) maxShortBits ≡ a → (b : Bool) → allParentheses (line s) ≡ b → treeAnswer (lineWords s ws) n ≡ inputAnswer s ws
       by true p true q =
-          let l = leb-true (lineEnd s) 4096 p in
+          let l = leb-true (lineEnd s) maxShortBits p in
           let e : n ≡ lineEnd s = cc (h, p, q) in
           let o = row-passed (length (lineWords s ws)) n (omega (arith, l, e)) (omega (arith, l, e, w)) in
           rw (← o, ← words-read l, e) (simp (p, q))

@@ -1,7 +1,6 @@
-// One line of parentheses: the text in what was read, and the refusals of the program `levels`: 2, 6, then 7.
+// Reads one line of parentheses for the program `levels`: finds the text, tests refusals 2, 6 and 7 in this order, and fills the words.
 //
-// It takes in a tree and prints nothing, so that what is refused, and in which order, is said apart from any page. The program `replay`
-// finds the ends of its lines by it too.
+// This crate prints nothing. So its promises state what is refused, and in which order, without any page. `test_replay` uses `line_end` too.
 ghost use mathlib.Core.Path.{_≡_};
 ghost use lib.ListN.{length};
 ghost use Rattle.io.specs.Counts.{Counts};
@@ -11,7 +10,7 @@ use row::Read;
 use row::Refusal;
 use row::Told;
 
-// The place of the first newline, or the length where there is none.
+// Returns the index of the first newline, or the length if there is none.
 pub fn line_end(bytes: &[u8]) -> usize
     ensures { λ r. ⌜ Counts r (now (bytes .entry)) ⌝ }
     ensures { λ r. ⌜ r ≡ lineEnd (now (bytes .entry)) ⌝ }
@@ -26,19 +25,21 @@ pub fn line_end(bytes: &[u8]) -> usize
     i
 }
 
-// Refusals 2 and 6. Where bytes has 4,097 and no newline, the line is longer than 4,096 whatever it holds.
+// Reads the text of the line into the words, with refusals 2 and 6. The program passes at most 4,097 bytes: 4,097 bytes without a newline are
+// refusal 2, whatever they are.
 fn read_line(bytes: &[u8], words: &mut [u64; 64]) -> Read
     ensures { λ a. ⌜ paperRead a ≡ lineAnswer (now (bytes .entry)) ⌝ }
     ensures { λ a. ⌜ now (words .exit) ≡ lineWords (now (bytes .entry)) (now (words .entry)) ⌝ }
 {
     let end = line_end(bytes);
-    if 4096 < end {
+    if row::MAX_SHORT_BITS < end {
         return Read::Refused(Refusal::TooManyBits);
     }
     text::read_text(&bytes[..end], words)
 }
 
-// Refusal 7. That there are 64 words is what the type says; the caller has it only from here.
+// Refuses a row that is not one tree by 7. The second promise states the length of the array: the proof of `read_tree` needs it and can take it
+// only from here.
 fn admit_tree(words: &[u64; 64], n: usize) -> Read
     ensures { λ a. ⌜ paperRead a ≡ treeAnswer (now (words .entry)) n ⌝ }
     ensures { λ a. ⌜ 64 ≡ length (now (words .entry)) ⌝ }
@@ -51,7 +52,7 @@ fn admit_tree(words: &[u64; 64], n: usize) -> Read
     }
 }
 
-// The bits of one tree, put into words: how many there are, or the refusal.
+// Reads one tree into the words. Returns its number of bits, or the refusal.
 pub fn read_tree(bytes: &[u8], words: &mut [u64; 64]) -> Read
     ensures { λ a. ⌜ paperRead a ≡ inputAnswer (now (bytes .entry)) (now (words .entry)) ⌝ }
     ensures { λ a. ⌜ now (words .exit) ≡ lineWords (now (bytes .entry)) (now (words .entry)) ⌝ }

@@ -1,7 +1,9 @@
--- Texts put on a page one behind the other, and how many digits a number has.
---   adds-nothing, adds-one, adds-none: no text; a byte, with room for it and without
---   adds-then: one text, then another; adds-front: what stands at the front then; text-step, text-done: a text byte by byte
---   places-are, decimal-is: the digits that io writes
+-- Texts that are added to a page one after another, and the number of digits of a number.
+--   take-joined: the first k elements of two joined lists do not depend on the first list after its first k elements
+--   adds-nothing: an empty text; adds-one, adds-none: one byte, if the page has room and if it is full
+--   adds-then: one text and then another; adds-front: a text at the front of a page that has room for it
+--   text-step, text-done: a text byte by byte
+--   places-are, few-places, decimal-is: `decimalOf` gives the digits that `io::decimal` writes
 -- Assumes nothing.
 use mathlib.Core.Path.{_≡_, refl, sym, ap, _∙_}
 use mathlib.Core.Bool.{Bool, true, false}
@@ -18,13 +20,13 @@ use lib.Seq.{length-take-le, take-all, take-suc, take-suc-set, take-append-seam}
 use Rattle.io.specs.Digits.{digits, Fewest}
 use Rattle.app_page.specs.Page.{Adds, places, decimalOf}
 
--- what lies past a list's first k elements does not reach the first k of what is joined to it
+-- The first k elements of l joined with u do not depend on the elements of l after its first k.
 take-joined : (k : ℕ) (l u : List ℕ) → take k (take k l ++ u) ≡ take k (l ++ u)
 take-joined zero l u = refl
 take-joined (suc k) [] u = refl
 take-joined (suc k) (x ∷ l) u = ap (λ (r : List ℕ). x ∷ r) (take-joined k l u)
 
--- no text
+-- An empty text.
 pub adds-nothing : (old : List ℕ) (a : ℕ) → Adds old a [] old a
 adds-nothing old a h =
     let l : length (take a old) ≤ length old = omega (arith, length-take-le a old h) in
@@ -35,13 +37,13 @@ adds-one old a b h k =
     let n : length (take a old ++ (b ∷ [])) ≤ length old = omega (arith, h, length-append (take a old) (b ∷ []), length-take-le a old k) in
     (omega (arith, h), rw add-one (take-suc-set old a b h) ∙ sym (take-all (length old) (take a old ++ (b ∷ [])) n))
 
--- a byte, where the page is full
+-- One byte, on a full page.
 pub adds-none : (old : List ℕ) (a b : ℕ) → length old ≤ a → Adds old a (b ∷ []) old a
 adds-none old a b h k =
     let e : take a old ≡ old = take-all a old h in
     (k, e ∙ sym (ap (λ (x : List ℕ). take (length old) (x ++ (b ∷ []))) e ∙ take-append-seam old (b ∷ [])))
 
--- one text, then another
+-- One text, then another.
 pub adds-then : (old page new t u : List ℕ) (a m r : ℕ) → length page ≡ length old
     → Adds old a t page m → Adds page m u new r → Adds old a (t ++ u) new r
 adds-then old page new t u a m r e one two h =
@@ -52,7 +54,7 @@ adds-then old page new t u a m r e one two h =
           ∙ take-joined (length old) (take a old ++ t) u ∙ ap (take (length old)) (append-assoc (take a old) t u),
     )
 
--- a text at the front of a page that has room for it
+-- A text at the front of a page that has room for it.
 pub adds-front : (old new text : List ℕ) (r : ℕ) → length new ≡ length old → length text ≤ length old → Adds old 0 text new r
     → (r ≡ length text) × (take r new ≡ text)
 adds-front old new text r e h one =
@@ -60,7 +62,7 @@ adds-front old new text r e h one =
     let t : take r new ≡ text = p .1 ∙ take-all (length old) text h in
     (sym (length-take-le r new (omega (arith, e, p .0))) ∙ ap length t, t)
 
--- a text byte by byte: byte i behind the first i
+-- A text byte by byte: byte i is put after the first i bytes.
 pub text-step : (old page new text : List ℕ) (a i at' r : ℕ) → i < length text → length page ≡ length old
     → Adds old a (take i text) page at' → Adds page at' (getD text i 0 ∷ []) new r → Adds old a (take (i + 1) text) new r
 text-step old page new text a i at' r h e one two =

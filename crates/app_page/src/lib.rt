@@ -1,12 +1,12 @@
-// A page of bytes that is filled from the front. What is to be printed is gathered on it and written at once, so that all of it can be
-// promised as one text. Each function puts something behind the first `at` bytes and answers how many there are then.
+// A page: bytes that are filled from the front. The program collects its output on a page and writes it once, so that one promise can cover
+// all output. `put`, `put_text` and `put_number` put something after the first `at` bytes and answer how many bytes are then filled.
 //
-// It knows bytes and numbers and no tree: what they mean is said by those who put them there.
+// This crate knows only bytes and numbers. What they mean is up to the caller.
 ghost use mathlib.Core.List.{[], _∷_};
 ghost use Rattle.io.specs.Counts.{Counts};
 ghost use Rattle.app_page.specs.Page.{Adds, decimalOf};
 
-// One byte. A page that is full stays as it is.
+// Puts one byte. A full page is unchanged.
 pub fn put(page: &mut [u8], at: usize, b: u8) -> usize
     ensures { λ r. ⌜ Adds (now (page .entry)) at (b ∷ []) (now (page .exit)) r ⌝ }
 {
@@ -17,6 +17,7 @@ pub fn put(page: &mut [u8], at: usize, b: u8) -> usize
     at
 }
 
+// Puts a text, as far as the page goes.
 pub fn put_text(page: &mut [u8], at: usize, text: &[u8]) -> usize
     ensures { λ r. ⌜ Adds (now (page .entry)) at (now (text .entry)) (now (page .exit)) r ⌝ }
 {
@@ -29,6 +30,7 @@ pub fn put_text(page: &mut [u8], at: usize, text: &[u8]) -> usize
     at
 }
 
+// Puts a number in decimal. A u64 has at most 20 digits.
 pub fn put_number(page: &mut [u8], at: usize, n: u64) -> usize
     ensures { λ r. ⌜ Adds (now (page .entry)) at (decimalOf n) (now (page .exit)) r ⌝ }
 {
@@ -37,7 +39,7 @@ pub fn put_number(page: &mut [u8], at: usize, n: u64) -> usize
     put_text(page, at, &text[..k])
 }
 
-// The first `at` bytes of a page, for `&page[..at]`.
+// Returns `at`, or the length of the page if that is smaller. So `&page[..r]` is in bounds for the result r.
 pub fn filled(page: &[u8], at: usize) -> usize
     ensures { λ r. ⌜ Counts r (now (page .entry)) ⌝ }
 {

@@ -5,6 +5,7 @@
 ghost use mathlib.Core.Path.{_≡_};
 ghost use Prim.Native.Nat.{_+_, _-_, _*_, _/_, _<_};
 ghost use lib.ListN.{length};
+ghost use Rattle.ints.specs.Limits.{i64Bound};
 ghost use Rattle.ints.specs.Sides.{size};
 ghost use Rattle.row.specs.Bits.{bitAt};
 ghost use Rattle.row.specs.Way.{forward, backward};
@@ -16,7 +17,7 @@ use bits_stretch::Summary;
 
 pub fn edge_fwd(words: &[u64], from: usize, to: usize, r: i64) -> Scanned
     requires { ⌜ InWord (length (now words)) from to ⌝ }
-    requires { ⌜ size r + 64 < 9223372036854775808 ⌝ }
+    requires { ⌜ size r + 64 < i64Bound ⌝ }
     ensures { λ a. ⌜ a ≡ scan forward (bitAt (now (words .entry))) (to - from) from r ⌝ }
 {
     if to <= from {
@@ -31,7 +32,7 @@ pub fn edge_fwd(words: &[u64], from: usize, to: usize, r: i64) -> Scanned
 
 pub fn edge_bwd(words: &[u64], from: usize, to: usize, r: i64) -> Scanned
     requires { ⌜ InWord (length (now words)) from to ⌝ }
-    requires { ⌜ size r + 64 < 9223372036854775808 ⌝ }
+    requires { ⌜ size r + 64 < i64Bound ⌝ }
     ensures { λ a. ⌜ a ≡ scan backward (bitAt (now (words .entry))) (to - from) from r ⌝ }
 {
     if to <= from {

@@ -8,6 +8,7 @@ use lib.IntN.{ℤ, _+ℤ_, _-ℤ_}
 use mir.Syntax.{w64}
 use mir.Val.{SFits, toZ, ofZ}
 use mir.ValLaws.{toZ-ofZ}
+use Rattle.ints.specs.Limits.{i64Bound}
 use Rattle.ints.specs.Sides.{size}
 use Rattle.ints.proofs.Linear.{plus-size, minus-size}
 use Rattle.ints.proofs.Shapes.{zsum}
@@ -22,9 +23,9 @@ module _ (f : ℕ → ℕ) where
   pub total-back : (y : Summary) → y ≡ x → toZ w64 (ofZ w64 (y .total)) ≡ x .total
   total-back y e = ap (λ (z : Summary). toZ w64 (ofZ w64 (z .total))) e ∙ toZ-ofZ w64 (x .total) (omega (zsum, summary-size f 0 8 .total))
 
-  module _ (r : ℤ) (room : size r + 64 < 9223372036854775808) where
+  module _ (r : ℤ) (room : size r + 64 < i64Bound) where
     pub less-fits : SFits w64 (r -ℤ x .total)
-    less-fits = let s = minus-size r (x .total) in let t = summary-size f 0 8 .total in let w : size (r -ℤ x .total) < 9223372036854775808 = omega arith in omega (zsum, w)
+    less-fits = let s = minus-size r (x .total) in let t = summary-size f 0 8 .total in let w : size (r -ℤ x .total) < i64Bound = omega arith in omega (zsum, w)
 
     pub more-fits : SFits w64 (r +ℤ x .total)
-    more-fits = let s = plus-size r (x .total) in let t = summary-size f 0 8 .total in let w : size (r +ℤ x .total) < 9223372036854775808 = omega arith in omega (zsum, w)
+    more-fits = let s = plus-size r (x .total) in let t = summary-size f 0 8 .total in let w : size (r +ℤ x .total) < i64Bound = omega arith in omega (zsum, w)

@@ -1,6 +1,7 @@
 // A byte's part in a search: the position in it, or what is left of the excess that is looked for.
 ghost use mathlib.Core.Path.{_≡_};
 ghost use Prim.Native.Nat.{_+_, _<_};
+ghost use Rattle.ints.specs.Limits.{i64Bound};
 ghost use Rattle.ints.specs.Sides.{size};
 ghost use Rattle.row.specs.Bits.{digit};
 ghost use Rattle.row.specs.Way.{forward, backward};
@@ -13,7 +14,7 @@ use bits_stretch::Scanned;
 // The byte b, forward.
 pub fn process_block_fwd(t: &Lookup, b: u8, r: i64) -> Scanned
     requires { ⌜ IsTable (now t) ⌝ }
-    requires { ⌜ size r + 64 < 9223372036854775808 ⌝ }
+    requires { ⌜ size r + 64 < i64Bound ⌝ }
     ensures { λ a. ⌜ a ≡ scan forward (digit b) 8 0 r ⌝ }
 {
     let x = byte_summary(t, b);
@@ -27,7 +28,7 @@ pub fn process_block_fwd(t: &Lookup, b: u8, r: i64) -> Scanned
 // `unreachable!`, what is left is answered.
 pub fn process_block_bwd(t: &Lookup, b: u8, r: i64) -> Scanned
     requires { ⌜ IsTable (now t) ⌝ }
-    requires { ⌜ size r + 64 < 9223372036854775808 ⌝ }
+    requires { ⌜ size r + 64 < i64Bound ⌝ }
     ensures { λ a. ⌜ a ≡ scan backward (digit b) 8 0 r ⌝ }
 {
     let x = byte_summary(t, b);

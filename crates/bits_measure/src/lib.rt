@@ -5,6 +5,7 @@
 ghost use mathlib.Core.Path.{_≡_};
 ghost use Prim.Native.Nat.{_+_, _-_, _*_, _%_, _<_};
 ghost use lib.ListN.{length};
+ghost use Rattle.row.specs.Limits.{maxBits, maxBytes};
 ghost use Rattle.row.specs.Bits.{bitAt};
 ghost use Rattle.bits_stretch.specs.Summary.{summaryOf};
 ghost use Rattle.bits_lookup.specs.Table.{IsTable};
@@ -16,7 +17,7 @@ use bits_stretch::Summary;
 // Bytes from .. to of a row, at least one.
 fn bytes_summary(t: &Lookup, words: &[u64], from: usize, to: usize) -> Summary
     requires { ⌜ IsTable (now t) ⌝ }
-    requires { ⌜ InRow (8 * length (now words)) from to 536870912 ⌝ }
+    requires { ⌜ InRow (8 * length (now words)) from to maxBytes ⌝ }
     requires { ⌜ from < to ⌝ }
     ensures { λ x. ⌜ x ≡ summaryOf (bitAt (now (words .entry))) (8 * from) (8 * (to - from)) ⌝ }
 {
@@ -32,7 +33,7 @@ fn bytes_summary(t: &Lookup, words: &[u64], from: usize, to: usize) -> Summary
 // Bits from .. to of a row, at least one. A stretch begins where a block does, at a byte's edge.
 pub fn stretch_summary(t: &Lookup, words: &[u64], from: usize, to: usize) -> Summary
     requires { ⌜ IsTable (now t) ⌝ }
-    requires { ⌜ InRow (64 * length (now words)) from to 4294967296 ⌝ }
+    requires { ⌜ InRow (64 * length (now words)) from to maxBits ⌝ }
     requires { ⌜ (from % 8 ≡ 0) × (from < to) ⌝ }
     ensures { λ x. ⌜ x ≡ summaryOf (bitAt (now (words .entry))) from (to - from) ⌝ }
 {

@@ -13,6 +13,7 @@ use lib.IntN.{ℤ}
 use mir.Syntax.{w64}
 use mir.Val.{SFits, toZ, ofZ}
 use mir.ValLaws.{toZ-ofZ}
+use Rattle.ints.specs.Limits.{i64Bound}
 use Rattle.ints.specs.Sides.{size}
 use Rattle.ints.proofs.Linear.{plus-size, minus-size}
 use Rattle.ints.proofs.Shapes.{zsum}
@@ -93,12 +94,12 @@ module _ (v : ℕ) where
   passed-size forward r = omega (arith, minus-size r total, excess-size (digit v) 64)
   passed-size backward r = omega (arith, plus-size r total, excess-size (digit v) 64)
 
-  module _ (w : Way) (r : ℤ) (room : size r + 128 < 9223372036854775808) {t : ℤ} (e : t ≡ total) where
+  module _ (w : Way) (r : ℤ) (room : size r + 128 < i64Bound) {t : ℤ} (e : t ≡ total) where
     back : toZ w64 (ofZ w64 t) ≡ total
     back = ap (λ (t : ℤ). toZ w64 (ofZ w64 t)) e ∙ toZ-ofZ w64 total (omega (zsum, excess-size (digit v) 64))
 
     pub far-fits : SFits w64 (passed w r (toZ w64 (ofZ w64 t)))
-    far-fits = rw back (let l : size (passed w r total) < 9223372036854775808 = omega (arith, passed-size w r) in omega (zsum, l))
+    far-fits = rw back (let l : size (passed w r total) < i64Bound = omega (arith, passed-size w r) in omega (zsum, l))
 
     pub far-left : {c a : ℕ} → c ≡ 64 → a ≡ 0 → 64 < size r → Left (toZ w64 (ofZ w64 (passed w r (toZ w64 (ofZ w64 t))))) ≡ scan w (digit v) c a r
     far-left n z h =

@@ -2,6 +2,8 @@
 ghost use mathlib.Core.Path.{_≡_};
 ghost use Prim.Native.Nat.{_+_, _-_, _*_, _<_, _≤_};
 ghost use lib.ListN.{length};
+ghost use Rattle.ints.specs.Limits.{i64Bound};
+ghost use Rattle.row.specs.Limits.{maxBits, maxBytes};
 ghost use Rattle.ints.specs.Sides.{size};
 ghost use Rattle.row.specs.Bits.{digit, bitAt};
 ghost use Rattle.row.specs.Way.{forward};
@@ -17,7 +19,7 @@ use bits_stretch::Scanned;
 fn bytes_fwd(t: &Lookup, word: u64, from: usize, to: usize, r: i64) -> Scanned
     requires { ⌜ IsTable (now t) ⌝ }
     requires { ⌜ (from < to) × (to ≤ 8) ⌝ }
-    requires { ⌜ size r + 128 < 9223372036854775808 ⌝ }
+    requires { ⌜ size r + 128 < i64Bound ⌝ }
     ensures { λ a. ⌜ a ≡ scan forward (digit word) (8 * (to - from)) (8 * from) r ⌝ }
 {
     let mut rest = word >> (8 * from);
@@ -42,7 +44,7 @@ fn bytes_fwd(t: &Lookup, word: u64, from: usize, to: usize, r: i64) -> Scanned
 fn word_fwd(t: &Lookup, word: u64, from: usize, to: usize, r: i64) -> Scanned
     requires { ⌜ IsTable (now t) ⌝ }
     requires { ⌜ (from < to) × (to ≤ 8) ⌝ }
-    requires { ⌜ size r + 128 < 9223372036854775808 ⌝ }
+    requires { ⌜ size r + 128 < i64Bound ⌝ }
     ensures { λ a. ⌜ a ≡ scan forward (digit word) (8 * (to - from)) (8 * from) r ⌝ }
 {
     if to - from == 8 {
@@ -59,8 +61,8 @@ fn word_fwd(t: &Lookup, word: u64, from: usize, to: usize, r: i64) -> Scanned
 // Bytes from .. to of a row, word by word.
 fn words_fwd(t: &Lookup, words: &[u64], from: usize, to: usize, r: i64) -> Scanned
     requires { ⌜ IsTable (now t) ⌝ }
-    requires { ⌜ InRow (8 * length (now words)) from to 536870912 ⌝ }
-    requires { ⌜ size r + 4294967808 < 9223372036854775808 ⌝ }
+    requires { ⌜ InRow (8 * length (now words)) from to maxBytes ⌝ }
+    requires { ⌜ size r + (maxBits + 512) < i64Bound ⌝ }
     ensures { λ a. ⌜ a ≡ scan forward (bitAt (now (words .entry))) (8 * (to - from)) (8 * from) r ⌝ }
 {
     let mut k = from;
@@ -84,8 +86,8 @@ fn words_fwd(t: &Lookup, words: &[u64], from: usize, to: usize, r: i64) -> Scann
 // Bits from .. to of a row.
 pub fn fwd_search_block(t: &Lookup, words: &[u64], from: usize, to: usize, r: i64) -> Scanned
     requires { ⌜ IsTable (now t) ⌝ }
-    requires { ⌜ InRow (64 * length (now words)) from to 4294967296 ⌝ }
-    requires { ⌜ size r + 4294968320 < 9223372036854775808 ⌝ }
+    requires { ⌜ InRow (64 * length (now words)) from to maxBits ⌝ }
+    requires { ⌜ size r + (maxBits + 1024) < i64Bound ⌝ }
     ensures { λ a. ⌜ a ≡ scan forward (bitAt (now (words .entry))) (to - from) from r ⌝ }
 {
     let a = (from + 7) / 8;

@@ -1,7 +1,13 @@
--- What a stretch's numbers tell a scan: bits whose numbers do not hold what is looked for are passed over at once.
---   summary-total: the total is the excess of the bits; holds-in, holds-low, holds-top, back-cases: what the test says
---   skip-forward, skip-backward: passed over by their numbers; skip-far: passed over because r is further than the bits go
---   scan-some: a position that meets r is found; hold-forward, hold-backward: so one is, where the numbers hold r
+-- What the summary of a stretch says of a scan: a stretch that does not qualify is passed, one that qualifies has a hit.
+--   holds-in: if least <= r <= greatest, the test for going forward says yes
+--   holds-low, holds-top: if it says yes, then least <= r (r <= greatest)
+--   back-zero: the test for going backward says yes of 0
+--   back-cases: if it says yes of s, then s = 0 or the test for going forward says yes of s
+--   summary-total: the total of a summary is the excess of the bits
+--   scan-some: if some position of the stretch has the searched excess, the scan hits a position
+--   skip-forward, skip-backward: a scan passes a stretch that does not qualify, and the remainder changes by its total
+--   hold-forward, hold-backward: a scan hits a position in a stretch that qualifies; going backward, if r is not 0
+--   skip-far: a scan passes c bits if |r| is above c
 -- Assumes nothing.
 use mathlib.Core.Path.{_≡_, refl, sym, ap, _∙_}
 use mathlib.Core.Logic.{_⊎_, inl, inr, ⊎-elim}
@@ -29,7 +35,7 @@ use Rattle.bits_stretch.specs.Scan.{place, rest, passed, less, scan}
 use Rattle.bits_stretch.proofs.Full.{Full, summary-full}
 use Rattle.bits_stretch.proofs.Meets.{met, hitAnswer, scan-nearest, scan-left, scan-none}
 
--- ---- the tests
+-- ---- the tests whether a stretch qualifies
 pub holds-in : (x : Summary) (r : ℤ) → x .least ≤ℤ r → r ≤ℤ x .greatest → holdsFor x r ≡ true
 unfolding holdsFor
 holds-in x r h k = rw (le-test h, le-test k)
@@ -76,7 +82,7 @@ scan-some w f c a r k p q m = go (scan w f c a r) refl (scan-nearest f (excess f
     go (Hit j) e g = (j, e)
     go (Left z) e g = absurd (g k (p, q, m))
 
--- ---- bits passed over, or not, by their numbers
+-- ---- bits that are passed, or hit, by their summary
 module _ (f : ℕ → ℕ) (c a : ℕ) (some : 0 < c) where
   abbrev x : Summary
   x = summaryOf f a c
@@ -93,7 +99,7 @@ module _ (f : ℕ → ℕ) (c a : ℕ) (some : 0 < c) where
   pub skip-backward : (r : ℤ) → holdsBack x (r +ℤ x .total) ≡ false → scan backward f c a r ≡ Left (r +ℤ x .total)
   skip-backward r h = rw summary-total (scan-none f backward c a r (λ k p q m. true≢false (sym (holds k p q m) ∙ h)))
     where
-      -- the excess before bit k is r from the end, so s from the beginning
+      -- If the excess before bit k is r more than at the end of the stretch, it is r + total more than at its beginning.
       s : (k : ℕ) → excess f k ≡ excess f (a + c) +ℤ r → excess f k ≡ excess f a +ℤ (r +ℤ x .total)
       s k m = omega (zsum, bits .total, plus r (x .total), plus (excess f (a + c)) r)
 
@@ -111,7 +117,7 @@ module _ (f : ℕ → ℕ) (c a : ℕ) (some : 0 < c) where
       let k = bits .taken (excess f a +ℤ r) (omega (zsum, holds-low x r h)) (omega (zsum, holds-top x r h)) in
       scan-some forward f c a r (k .0) (k .1) (k .2) (k .3)
 
-  -- the excess after the last bit is where the scan stands, so no position is judged by it
+  -- A backward scan does not compare the excess after the last bit. So r = 0 is excluded.
   pub hold-backward : (r : ℤ) → (r ≡ pos 0 → ⊥) → holdsBack x (r +ℤ x .total) ≡ true → (j : ℕ) × (scan backward f c a r ≡ Hit j)
   hold-backward r n h =
       ⊎-elim (λ z. scan-some backward f c a r a (omega arith) (omega arith) (omega (zsum, bits .total, plus r (x .total)))) inner (back-cases x s h)
@@ -129,7 +135,7 @@ module _ (f : ℕ → ℕ) (c a : ℕ) (some : 0 < c) where
                 let y : excess f (a + c) ≡ excess f (a + c) +ℤ r = rw e at m in absurd (n (omega (zsum, y))))
           ]
 
--- ---- bits passed over because r is too far to be met
+-- ---- bits that are passed because |r| is above their number
 less-far : (w : Way) (r : ℤ) (b : ℕ) → size r ≤ size (less w r b) + 1
 less-far forward r b =
     let e : r ≡ (r -ℤ sign b) +ℤ sign b = omega (zsum, plus (r -ℤ sign b) (sign b), minus r (sign b)) in

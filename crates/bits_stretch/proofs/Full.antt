@@ -1,8 +1,18 @@
--- What a stretch's three numbers say of its bits a..t, for an excess e: it moves by the total, it stays between least and
--- greatest, and it takes every value between them.
---   Full: the claim; end-over, end-under: it holds at the stretch's end too; wide: least <= greatest; full-only: no other numbers do
---   join-full: two stretches joined; summary-full: the numbers of bits; summary-join: more bits are two stretches joined
---   summary-ext: only the bits matter, not where they stand; summary-tame: the numbers are small
+-- What a summary says of the bits from a to t - 1 and their excess e: from a to t the excess changes by the total, relative to e(a)
+-- it stays between least and greatest, and it takes every value between them.
+--   Full: this claim, for a stretch of at least one bit
+--   end-over, end-under: the excess at the end of the stretch is also between least and greatest
+--   wide: least <= greatest
+--   full-only: at most one summary satisfies the claim
+--   join-full: the join of two summaries satisfies it for the two stretches together
+--   single: the summary whose three values are equal
+--   summary-first: the summary of one bit is such a summary
+--   summary-full: the summary of at least one bit satisfies the claim
+--   summary-join: the summary of c + d bits is the join of those of the first c and the other d
+--   summary-ext: a summary depends only on the bits, not on their position
+--   Sized: each of the three values has a size of at most m
+--   summary-size: each value of the summary of c bits has a size of at most c
+--   summary-tame: the summary of at most 2^61 bits is `Tame`, so it can be joined
 -- Assumes nothing.
 use mathlib.Core.Path.{_≡_, refl, ap, ap₂}
 use mathlib.Core.Bool.{Bool, true, false}
@@ -20,7 +30,7 @@ use Rattle.ints.proofs.Order.{min-ud, max-ud, min-size, max-size}
 use Rattle.row.specs.Excess.{sign, excess}
 use Rattle.row.proofs.Excess.{StepsByOne, steps, excess-ext, excess-size}
 use Rattle.bits_stretch.specs.declared.summary.Summary.{Summary}
-use Rattle.bits_stretch.specs.Summary.{run, lowest, highest, none, summaryOf, joinOf, Tame}
+use Rattle.bits_stretch.specs.Summary.{run, lowest, highest, none, summaryOf, joinOf, Tame, tameBound}
 
 pub record Full (e : ℕ → ℤ) (a t : ℕ) (x : Summary) : Type 0 where
   pub some : a < t
@@ -43,7 +53,7 @@ module _ (e : ℕ → ℤ) (a t : ℕ) (x : Summary) (f : Full e a t x) where
   pub wide : x .least ≤ℤ x .greatest
   wide = let s = f .some in omega (zsum, end-over, end-under)
 
--- one's least is no greater than the other's, nor its greatest less
+-- If both summaries satisfy the claim for the same bits, the least of x is at most that of y, and the greatest of x at least that of y.
 within : (e : ℕ → ℤ) (a t : ℕ) (x y : Summary) → Full e a t x → Full e a t y → (x .least ≤ℤ y .least) × (y .greatest ≤ℤ x .greatest)
 within e a t x y f g =
     let l = g .taken (e a +ℤ y .least) (omega zsum) (omega (zsum, wide e a t y g)) in
@@ -119,7 +129,7 @@ module _ (e : ℕ → ℤ) (near : (k : ℕ) → StepsByOne e k) (a m t : ℕ) (
   }
 
 -- ---- bits
--- numbers that are all the same: those of one bit
+-- The summary of one bit: all three values are what the bit adds.
 abbrev pub single : ℤ → Summary
 single s = record { total = s; least = s; greatest = s }
 
@@ -158,7 +168,7 @@ module _ (f : ℕ → ℕ) where
       full-only (excess f) a (a + (c + d)) (summaryOf f a (c + d)) (joinOf (summaryOf f a c) (summaryOf f (a + c) d)) (summary-full a (c + d) (omega arith))
       (rw q at (join-full (excess f) (steps f) a (a + c) ((a + c) + d) (summaryOf f a c) (summaryOf f (a + c) d) (summary-full a c h) (summary-full (a + c) d k)))
 
--- ---- only the bits matter
+-- ---- a summary depends only on the bits
 lowest-ext : (g h : ℕ → ℤ) (c : ℕ) → ((j : ℕ) → j ≤ c → g j ≡ h j) → lowest g c ≡ lowest h c
 unfolding lowest
 lowest-ext g h zero q = q 0 (omega arith)
@@ -177,7 +187,7 @@ summary-ext f g a b (suc c) h = λ i. record { total = q c (omega arith) i; leas
     q : (j : ℕ) → j ≤ c → run f a j ≡ run g b j
     q j l = excess-ext (λ k. f (a + k)) (λ k. g (b + k)) (suc j) (λ k m. h k (omega arith))
 
--- ---- c bits move the excess by c at most
+-- ---- c bits change the excess by at most c
 lowest-size : (g : ℕ → ℤ) (m c : ℕ) → ((j : ℕ) → j ≤ c → size (g j) ≤ m) → size (lowest g c) ≤ m
 unfolding lowest
 lowest-size g m zero h = h 0 (omega arith)
@@ -201,5 +211,5 @@ summary-size f a (suc c) = record { total = q c (omega arith); least = lowest-si
     q : (j : ℕ) → j ≤ c → size (run f a j) ≤ suc c
     q j l = omega (arith, excess-size (λ k. f (a + k)) (suc j))
 
-pub summary-tame : (f : ℕ → ℕ) (a c : ℕ) → c ≤ 2305843009213693952 → Tame (summaryOf f a c)
+pub summary-tame : (f : ℕ → ℕ) (a c : ℕ) → c ≤ tameBound → Tame (summaryOf f a c)
 summary-tame f a c h = let s = summary-size f a c in record { total = omega arith; least = omega arith; greatest = omega arith }

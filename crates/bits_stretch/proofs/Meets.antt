@@ -1,6 +1,10 @@
--- What a scan finds, for either way: the nearest position at which the excess is met; or none, and then what is left.
---   met, found, scan-nearest: the position; scan-left: what is left
---   scan-none: no position; left-some: what a scan back leaves is never 0
+-- What a scan finds, in either direction: the nearest position with the searched excess, or the remainder that it leaves.
+--   met: the excess that is compared at a position
+--   hitAnswer: the hit of a scan as an answer, without the remainder
+--   scan-nearest: a scan hits the nearest position with the searched excess, or none of its bits has it
+--   scan-left: the remainder that a scan leaves is the old one minus the total of the bits (plus the total, going backward)
+--   scan-none: if no position has the searched excess, the scan leaves this remainder
+--   scan-leaves: a scan of at least one bit never leaves 0
 -- Assumes nothing.
 use mathlib.Core.Path.{_≡_, refl, _∙_}
 use mathlib.Core.Logic.{_⊎_, inl, inr, ⊎-elim}
@@ -24,12 +28,12 @@ use Rattle.bits_stretch.specs.declared.bits.Scanned.the-variants.{Hit, L
 use Rattle.bits_stretch.specs.Scan.{place, rest, passed, less, scan}
 use Rattle.bits_stretch.proofs.Parts.{thenAt, then-rest}
 
--- the excess that a position is judged by: forward the one after it, backward the one before it
+-- The excess that is compared at position k: going forward the one after it, going backward the one before it.
 abbrev pub met : Way → (ℕ → ℤ) → ℕ → ℤ
 met forward e k = e (suc k)
 met backward e k = e k
 
--- a scan's answer, without what is left
+-- The hit of a scan as an answer. The remainder is dropped.
 abbrev pub hitAnswer : Scanned → Answer
 hitAnswer (Hit j) = at j
 hitAnswer (Left q) = nothing
@@ -38,7 +42,7 @@ module _ (f : ℕ → ℕ) (v : ℤ) where
   abbrev Meets : Way → ℕ → Type 0
   Meets w k = met w (excess f) k ≡ v
 
-  -- ---- one bit: v is r away from where the scan stands
+  -- ---- one bit: v is the excess where the scan starts, plus the remainder r
   next : (w : Way) (c a : ℕ) (r : ℤ) → v ≡ excess f (place w (suc c) a) +ℤ r → v ≡ excess f (place w c (rest w a)) +ℤ less w r (f (place w c a))
   unfolding excess
   next forward c a r h = omega (zsum, minus r (sign (f a)), plus (excess f a) (sign (f a)))
@@ -48,7 +52,7 @@ module _ (f : ℕ → ℕ) (v : ℤ) where
   judged forward c a = refl
   judged backward c a = refl
 
-  -- the bit read first comes before the others, which are the rest
+  -- The bit that is read first is met before the others, and the others are the rest.
   ahead : (w : Way) (c a k : ℕ) → a ≤ k → k < a + suc c → Before w k (place w c a) → ⊥
   ahead forward c a k h l b = omega arith
   ahead backward c a k h l b = omega arith
@@ -65,7 +69,7 @@ module _ (f : ℕ → ℕ) (v : ℤ) where
   at-place forward c a = (omega arith, omega arith)
   at-place backward c a = (omega arith, omega arith)
 
-  -- ---- the bits of a..a + c
+  -- ---- the c bits from a on
   Here : Way → ℕ → ℕ → Answer → Type 0
   Here w a c = NearestBy (Before w) (InStretch (Meets w) a (a + c))
 
@@ -98,7 +102,7 @@ module _ (f : ℕ → ℕ) (v : ℤ) where
       go true e g = let z = eqZ-true q (pos 0) e in hit w c a (judged w c a ∙ omega (zsum, n))
       go false e g = wider w c a (λ m. eqZ-false q (pos 0) e (omega (zsum, n, judged w c a, m))) (hitAnswer (scan w f c (rest w a) q)) g
 
-  -- ---- what is left: v is as far from where the scan ends
+  -- ---- the remainder: v is the excess where the scan ends, plus the remainder that it leaves
   left-at : (w : Way) (c a : ℕ) (r q : ℤ) → v ≡ excess f (place w c a) +ℤ r → scan w f c a r ≡ Left q → v ≡ excess f (thenAt w c a) +ℤ q
   unfolding scan
   left-at w zero a r q h e = let z : r ≡ q = cc in rw z at (same w h)
@@ -121,7 +125,7 @@ module _ (f : ℕ → ℕ) where
   scan-left forward c a r q e = omega (zsum, left-at f (excess f a +ℤ r) forward c a r q refl e, excess-add f a c, plus (excess f a) r, minus r (excess (λ k. f (a + k)) c))
   scan-left backward c a r q e = omega (zsum, left-at f (excess f (a + c) +ℤ r) backward c a r q refl e, excess-add f a c, plus (excess f (a + c)) r, plus r (excess (λ k. f (a + k)) c))
 
-  -- where no position meets it, the scan passes over the bits
+  -- If no position has the searched excess, the scan passes all bits.
   pub scan-none : (w : Way) (c a : ℕ) (r : ℤ) → ((k : ℕ) → a ≤ k → k < a + c → met w (excess f) k ≡ excess f (place w c a) +ℤ r → ⊥)
       → scan w f c a r ≡ Left (passed w r (excess (λ k. f (a + k)) c))
   scan-none w c a r n = go (scan w f c a r) refl (scan-nearest f (excess f (place w c a) +ℤ r) w c a r refl)
@@ -130,7 +134,7 @@ module _ (f : ℕ → ℕ) where
       go (Hit j) e g = absurd (n j (g .0 .0) (g .0 .1) (g .0 .2))
       go (Left q) e g = rw (← scan-left w c a r q e) e
 
-  -- what a scan of at least one bit leaves is never 0, on any bits
+  -- A scan of at least one bit never leaves the remainder 0, whatever the bits are. Over no bits it leaves 0 only if it starts with 0.
   pub scan-leaves : (w : Way) (c a : ℕ) (r q : ℤ) → (c ≡ 0 → r ≡ pos 0 → ⊥) → scan w f c a r ≡ Left q → q ≡ pos 0 → ⊥
   unfolding scan
   scan-leaves w zero a r q n e z = n refl (let y : r ≡ q = cc in y ∙ z)

@@ -1,7 +1,11 @@
--- A scan by parts, for either way: over the bits of one part and then those of the next, and over bits that stand elsewhere.
---   onward, thenAt, scan-split: go on with what is left where the next part begins
---   moved, scan-shift: the same bits, a further on; scan-ext: only the bits read matter
---   scan-size: c bits move what is left by c at most
+-- A scan in parts, in either direction, and a scan of the same bits at another position.
+--   scanOnward: the hit of the first part, or the result of going on with its remainder
+--   thenAt: where the second part begins
+--   then-rest: thenAt for one bit and then c others is thenAt for c + 1
+--   scan-split: a scan of c + d bits is a scan of the c bits read first, then of the other d
+--   moved: the result of a scan with its hit moved by a
+--   scan-shift: a scan of the same bits a positions further on gives the same result, moved by a
+--   scan-size: c bits add at most c to the size of the remainder
 -- Assumes nothing.
 use mathlib.Core.Path.{_≡_, refl, sym, ap, _∙_}
 use mathlib.Core.Bool.{Bool, true, false, cond}
@@ -19,12 +23,12 @@ use Rattle.bits_stretch.proofs.Steps.{less-size}
 
 -- ---- one part and then the next
 
--- a position found, or what the rest finds
+-- The hit of the first part, or the result of going on with its remainder.
 abbrev pub scanOnward : Scanned → (ℤ → Scanned) → Scanned
 scanOnward (Hit j) g = Hit j
 scanOnward (Left q) g = g q
 
--- where the bits begin that are read after the first c of those from j on
+-- Of the bits from j on, where those begin that are read after the first c.
 abbrev pub thenAt : Way → ℕ → ℕ → ℕ
 thenAt forward c j = j + c
 thenAt backward c j = j
@@ -50,7 +54,7 @@ onward-cond true x y g = refl
 onward-cond false x y g = refl
 
 module _ (w : Way) (f : ℕ → ℕ) where
-  -- of c + d bits from j on: the c that are read first, then the d
+  -- Of the c + d bits from j on, c are read first, then the other d.
   pub scan-split : (c d j : ℕ) (r : ℤ) → scan w f (c + d) j r ≡ scanOnward (scan w f c (place w d j) r) (scan w f d (thenAt w c j))
   unfolding scan
   scan-split zero d j r = rw (zero-add, then-none w j)
@@ -60,9 +64,9 @@ module _ (w : Way) (f : ℕ → ℕ) where
       rw (suc-add, place-place w c d j, rest-place w d j, onward-cond, ← then-rest w c j)
       (ap (cond (eqZ q (pos 0)) (Hit x)) (scan-split c d (rest w j) q))
 
--- ---- the same bits elsewhere
+-- ---- the same bits at another position
 
--- a found position, a further on
+-- A hit moves by a positions; a remainder is unchanged.
 abbrev pub moved : ℕ → Scanned → Scanned
 moved a (Hit j) = Hit (a + j)
 moved a (Left q) = Left q
@@ -75,7 +79,7 @@ rest-plus : (w : Way) (a j : ℕ) → rest w (a + j) ≡ a + rest w j
 rest-plus forward a j = sym (add-suc a j)
 rest-plus backward a j = refl
 
--- the bit read first is one of those from j on, and so are the others
+-- The bit that is read first is one of the c + 1 bits from j on, and so are the others.
 place-from : (w : Way) (c j : ℕ) → (j ≤ place w c j) × (place w c j < j + suc c)
 place-from forward c j = (omega arith, omega arith)
 place-from backward c j = (omega arith, omega arith)
@@ -98,7 +102,7 @@ module _ (w : Way) (f g : ℕ → ℕ) (a : ℕ) where
       rw (place-plus w a c j, rest-plus w a j, h x (place-from w c j .0) (place-from w c j .1), moved-cond)
       (ap (cond (eqZ q (pos 0)) (Hit (a + x))) (scan-shift c (rest w j) q (λ k p l. let i = rest-from w c j k p l in h k (i .0) (i .1))))
 
--- ---- what is left
+-- ---- the remainder
 module _ (w : Way) (f : ℕ → ℕ) where
   pub scan-size : (c j : ℕ) (r q : ℤ) → scan w f c j r ≡ Left q → size q ≤ size r + c
   unfolding scan

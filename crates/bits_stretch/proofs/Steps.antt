@@ -1,8 +1,15 @@
--- A scan of bits one step at a time, for either way.
---   sign-back: what a bit adds, as the machine reads it back
---   less-size: a bit moves what is left by 1 at most
---   scan-end, scan-hit, scan-on: no bit is left to read; nothing is left of r at the bit read; something is
---   Going, going-done: where a loop that scans stands; Turn, turn-fits, turn-hit, turn-on: it reads one bit
+-- A scan one bit at a time, in either direction, and one turn of a loop that scans.
+--   sign-back: what a bit adds to the excess is unchanged by being stored in an i64
+--   less-size: one bit adds at most 1 to the size of the remainder
+--   scan-end: a scan of no bits leaves its remainder
+--   scan-hit: if the remainder after the next bit is 0, the scan hits that bit
+--   scan-on: otherwise the scan goes on with the other bits
+--   Going: the loop invariant: what is left to scan gives the result of the whole scan, and the remainder has room in an i64
+--   going-done: with no bit left, the remainder is the result
+--   Turn: one turn of the loop reads one bit
+--   turn-fits: the new remainder fits into an i64
+--   turn-hit: if the new remainder is 0, the bit is the hit of the whole scan
+--   turn-on: otherwise the invariant holds for the other bits
 -- Assumes nothing.
 use mathlib.Core.Path.{_≡_, sym, ap, _∙_}
 use Prim.Native.Nat.{ℕ, suc, _+_, _≤_, _<_}
@@ -11,6 +18,7 @@ use lib.IntN.{ℤ, pos}
 use mir.Syntax.{w64}
 use mir.Val.{SFits, toZ, ofZ}
 use mir.ValLaws.{toZ-ofZ}
+use Rattle.ints.specs.Limits.{i64Bound}
 use Rattle.ints.specs.Sides.{size}
 use Rattle.ints.proofs.Linear.{plus-size, minus-size, bits-≡}
 use Rattle.ints.proofs.Shapes.{zsum}
@@ -45,12 +53,13 @@ module _ (w : Way) (f : ℕ → ℕ) (c j : ℕ) (r : ℤ) where
 
 -- ---- one turn of a loop
 
--- of a scan of c bits from a on for r, that of m bits from j on for q is left to do, with room in an i64 for all that they leave of q
+-- A scan of c bits from a on with the remainder r has the same result as the scan of m bits from j on with the remainder q.
+-- All remainders of the second scan fit into an i64.
 pub record Going (w : Way) (f : ℕ → ℕ) (c a : ℕ) (r : ℤ) (m j : ℕ) (q : ℤ) : Type 0 where
   pub same : scan w f m j q ≡ scan w f c a r
-  pub room : size q + m < 9223372036854775808
+  pub room : size q + m < i64Bound
 
--- of the m bits from j on the one at x is read; k bits from i on are left then, and z of q
+-- Of the m bits from j on, the bit at x is read. After it k bits from i on are left, and the remainder q has become z.
 pub record Turn (w : Way) (f : ℕ → ℕ) (m j : ℕ) (q : ℤ) (x k i : ℕ) (z : ℤ) : Type 0 where
   pub some : m ≡ suc k
   pub here : x ≡ place w k j
@@ -65,7 +74,7 @@ module _ {w : Way} {f : ℕ → ℕ} {c a : ℕ} {r : ℤ} {m j : ℕ} {q : ℤ}
     leaves : z ≡ less w q (f (place w k j))
     leaves = t .left ∙ ap (λ (y : ℕ). less w q (f y)) (t .here)
 
-    room : size z + k < 9223372036854775808
+    room : size z + k < i64Bound
     room = rw leaves (omega (arith, t .some, g .room, less-size w q (f (place w k j))))
 
     pub turn-fits : SFits w64 z

@@ -1,4 +1,4 @@
--- A scan of bits one by one, forward or backward, for an excess.
+-- A scan: it reads a stretch bit by bit with a remainder, forward or backward (SCOPE, How a search walks).
 -- Assumes nothing.
 use mathlib.Core.Bool.{cond}
 use Prim.Native.Nat.{ℕ, zero, suc, _+_}
@@ -9,26 +9,26 @@ use Rattle.row.specs.Way.{Way, forward, backward}
 use Rattle.bits_stretch.specs.declared.bits.Scanned.{Scanned}
 use Rattle.bits_stretch.specs.declared.bits.Scanned.the-variants.{Hit, Left}
 
--- of the c + 1 bits from j on, the place of the one that is read first
+-- Of the c + 1 bits from j on, the position of the one that is read first: the lowest going forward, the highest going backward.
 abbrev pub place : Way → ℕ → ℕ → ℕ
 place forward c j = j
 place backward c j = j + c
 
--- where the other c begin
+-- The position where the other c bits begin.
 abbrev pub rest : Way → ℕ → ℕ
 rest forward j = suc j
 rest backward j = j
 
--- what is left of r once bits of total t are passed
+-- The remainder after passing bits of total t: r - t going forward, r + t going backward.
 abbrev pub passed : Way → ℤ → ℤ → ℤ
 passed forward r t = r -ℤ t
 passed backward r t = r +ℤ t
 
--- what is left of r once the bit b is passed
+-- The remainder after passing the bit b.
 abbrev pub less : Way → ℤ → ℕ → ℤ
 less w r b = passed w r (sign b)
 
--- the c bits of f from j on: the place at which nothing is left of r, or what is left after them
+-- A scan of the c bits of f from j on hits the first position at which the remainder becomes 0. Without a hit it leaves the remainder.
 unfoldable pub scan : Way → (ℕ → ℕ) → ℕ → ℕ → ℤ → Scanned
 scan d f zero j r = Left r
 scan d f (suc c) j r =

@@ -1,6 +1,7 @@
-// The bits of a held word, one by one.
+// Scans and the summary of bits of one word, read one by one.
 ghost use mathlib.Core.Path.{_≡_};
 ghost use Prim.Native.Nat.{_+_, _-_, _<_, _≤_};
+ghost use Rattle.ints.specs.Limits.{i64Bound};
 ghost use Rattle.ints.specs.Sides.{size};
 ghost use Rattle.row.specs.Bits.{digit};
 ghost use Rattle.row.specs.Excess.{sign};
@@ -10,13 +11,13 @@ ghost use Rattle.bits_stretch.specs.Scan.{scan};
 use crate::summary::Summary;
 use crate::summary::join;
 
-// What a scan finds: a position, or what is left of the excess that it looks for.
+// Result of a scan: the position that it hits, or the remainder that it leaves.
 pub enum Scanned {
     Hit(usize),
     Left(i64),
 }
 
-// What bit j of a word adds to the excess.
+// Returns what bit j of a word adds to the excess: 1 or -1.
 fn sign_of(word: u64, j: usize) -> i64
     requires { ⌜ j < 64 ⌝ }
     ensures { λ s. ⌜ s ≡ sign (digit word j) ⌝ }
@@ -24,10 +25,10 @@ fn sign_of(word: u64, j: usize) -> i64
     if (word >> j) % 2 == 0 { -1 } else { 1 }
 }
 
-// Bits from .. to, forward, for the first after which the excess has moved by r.
+// Scans bits `from` to `to` - 1 forward. It hits the first one after which the excess is r more than before bit `from`.
 pub fn bits_fwd(word: u64, from: usize, to: usize, r: i64) -> Scanned
     requires { ⌜ (from ≤ to) × (to ≤ 64) ⌝ }
-    requires { ⌜ size r + 64 < 9223372036854775808 ⌝ }
+    requires { ⌜ size r + 64 < i64Bound ⌝ }
     ensures { λ a. ⌜ a ≡ scan forward (digit word) (to - from) from r ⌝ }
 {
     let mut j = from;
@@ -42,10 +43,10 @@ pub fn bits_fwd(word: u64, from: usize, to: usize, r: i64) -> Scanned
     Scanned::Left(q)
 }
 
-// Bits from .. to, backward, for the first before which the excess has moved by r.
+// Scans bits `to` - 1 down to `from`. It hits the last one before which the excess is r more than before bit `to`.
 pub fn bits_bwd(word: u64, from: usize, to: usize, r: i64) -> Scanned
     requires { ⌜ (from ≤ to) × (to ≤ 64) ⌝ }
-    requires { ⌜ size r + 64 < 9223372036854775808 ⌝ }
+    requires { ⌜ size r + 64 < i64Bound ⌝ }
     ensures { λ a. ⌜ a ≡ scan backward (digit word) (to - from) from r ⌝ }
 {
     let mut j = to;
@@ -60,7 +61,7 @@ pub fn bits_bwd(word: u64, from: usize, to: usize, r: i64) -> Scanned
     Scanned::Left(q)
 }
 
-// The numbers of a single bit.
+// Returns the summary of a single bit.
 fn bit_summary(word: u64, j: usize) -> Summary
     requires { ⌜ j < 64 ⌝ }
     ensures { λ x. ⌜ x ≡ summaryOf (digit word) j 1 ⌝ }
@@ -73,7 +74,7 @@ fn bit_summary(word: u64, j: usize) -> Summary
     }
 }
 
-// The numbers of bits from .. to, at least one.
+// Returns the summary of bits `from` to `to` - 1, at least one bit.
 pub fn bits_summary(word: u64, from: usize, to: usize) -> Summary
     requires { ⌜ (from < to) × (to ≤ 64) ⌝ }
     ensures { λ x. ⌜ x ≡ summaryOf (digit word) from (to - from) ⌝ }

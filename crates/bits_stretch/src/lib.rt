@@ -1,8 +1,8 @@
-// A stretch of bits: the three numbers that say how the excess runs over it, and a scan of its bits one by one.
+// Stretches of bits: the summary of a stretch, the join of two summaries, and scans that read bits one by one.
 //
-// A search passes over a stretch whose numbers show that the position is not in it, and reads the bits of the one that holds
-// it. Bytes, blocks and the nodes above them are all stretches, so what is said here serves the lookup, the scans and the
-// node tree alike.
+// A search passes a stretch without reading its bits if the summary shows that the searched position is not in it. It reads the bits
+// of the stretch that has the position. Bytes, blocks and the bits under a min-max node are all stretches. So the byte lookup, the
+// block scans and the min-max tree all use this crate.
 mod bits;
 mod summary;
 

@@ -1,15 +1,15 @@
-// The three numbers of a stretch, those of two stretches joined, and what they tell a search.
+// The summary of a stretch, the join of two summaries, and the tests whether a stretch qualifies for a remainder.
 ghost use mathlib.Core.Path.{_≡_};
 ghost use Rattle.bits_stretch.specs.Summary.{Tame, joinOf, holdsFor, holdsBack};
 
-// The running excess is counted after each bit, from the stretch's own start.
+// Total, least and greatest running excess. The running excess is counted after each bit, from the start of the stretch.
 pub struct Summary {
     pub total: i64,
     pub least: i64,
     pub greatest: i64,
 }
 
-// The numbers of two stretches that follow one another.
+// Returns the summary of the stretch x followed by the stretch y.
 pub fn join(x: Summary, y: Summary) -> Summary
     requires { ⌜ Tame x ⌝ }
     requires { ⌜ Tame y ⌝ }
@@ -25,14 +25,15 @@ pub fn join(x: Summary, y: Summary) -> Summary
     }
 }
 
-// Whether the excess r, counted from the stretch's start, is met in it.
+// Tests whether a stretch qualifies for the remainder r going forward: the running excess is r after some bit of it.
 pub fn holds(x: Summary, r: i64) -> bool
     ensures { λ b. ⌜ b ≡ holdsFor x r ⌝ }
 {
     x.least <= r && r <= x.greatest
 }
 
-// The same going back, where the excess s is met before a bit: before the first one it is 0.
+// Tests whether a stretch qualifies going backward, where s is the remainder plus the total. A backward search compares the excess
+// before a bit. Before the first bit of the stretch it is 0, so s = 0 always qualifies.
 pub fn holds_back(x: Summary, s: i64) -> bool
     ensures { λ b. ⌜ b ≡ holdsBack x s ⌝ }
 {

@@ -1,7 +1,7 @@
-// All calls of the tree under one name. It has no function of its own.
+// Re-exports every call on the outline under one name. The crate has no function of its own.
 //
-// A call tests its arguments, refuses by a number, and otherwise answers what the walk finds. On a node buffer as built that answer is the
-// definition of SCOPE, The calls. The words and the node buffer are never written.
+// Each call tests its arguments and refuses bad ones by a number. A call that searches then answers what the walk finds; over a node buffer
+// as built this is the definition of SCOPE, The calls. No call writes to the words or to the node buffer.
 pub use bp_family::is_ancestor;
 pub use bp_family::last_child;
 pub use bp_family::next_sibling;

@@ -1,6 +1,7 @@
--- What parent and is_ancestor answer once their handles are tested, one law a branch, over any two searches.
---   parent-is; ancestor-at, ancestor-nothing, ancestor-refused: by searches
---   within-before, within-past, within-yes: whether d lies in a..c
+-- `parent` and `is_ancestor` after their tests have passed: one law per branch of the code, over any two searches.
+--   parent-is: at a handle `parent` is the search for -1
+--   ancestor-at, ancestor-nothing, ancestor-refused: `is_ancestor` if the close of a is at c, does not exist, or is refused
+--   within-before, within-past, within-yes: d is before a; d is at c or after it; d is between a and c
 -- Assumes nothing.
 use mathlib.Core.Path.{_≡_}
 use mathlib.Core.Bool.{true, false, _&&_}
@@ -18,7 +19,7 @@ use Rattle.bp_spec.specs.AncestorCalls.{parent, isAncestor}
 
 module _ (ws : List ℕ) (n : ℕ) where
   module _ (s : Searches) (v : ℕ) where
-    -- a handle opens
+    -- The bit at a handle is open, so `enclose` searches for -1.
     pub parent-is : opens ws n v ≡ true → s .bwd v (negsuc 0) ≡ parent ws n s v
     unfolding parent outward
     parent-is o = rw (parent, outward, o)
@@ -36,7 +37,7 @@ module _ (ws : List ℕ) (n : ℕ) where
     unfolding isAncestor
     ancestor-refused k e = rw e
 
--- ---- whether d lies in a..c
+-- ---- whether a <= d < c
 module _ (a d c : ℕ) where
   abbrev inside : Answer
   inside = told (leb a d && ltb d c)

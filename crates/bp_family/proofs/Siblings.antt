@@ -1,5 +1,9 @@
--- What a call on the last child or on a sibling answers once its handle is tested, one law a branch, over any two searches.
---   last-bare, last-at, last-nothing, last-refused; next-at, next-nothing, next-refused; previous-first, previous-none, previous-at
+-- `last_child`, `next_sibling` and `previous_sibling` after their tests have passed: one law per branch of the code, over any two searches.
+--   last-bare: no last child if the bit after v is not open
+--   last-at, last-nothing, last-refused: the last child if the close of v is at c, does not exist, or is refused
+--   next-at, next-nothing, next-refused: the next sibling in the same three cases
+--   previous-first: no previous sibling at position 0
+--   previous-none, previous-at: none if the bit before v is not a close bit; otherwise the search for its open bit
 -- Assumes nothing.
 use mathlib.Core.Path.{_≡_}
 use mathlib.Core.Bool.{true, false}

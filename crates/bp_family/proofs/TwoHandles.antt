@@ -1,5 +1,6 @@
--- From the outcome of the tests and the answer that is found then to what is_ancestor promises, which takes two handles.
---   two-refused, two-passed
+-- From the result of the tests to the promise of `is_ancestor`, which takes two handles.
+--   AncestorAnswers: the promise of `is_ancestor`
+--   two-refused, two-passed: the promise if a test refuses, and if all tests pass
 -- Assumes nothing.
 use mathlib.Core.Path.{_≡_}
 use mathlib.Core.List.{List}

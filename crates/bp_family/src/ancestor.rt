@@ -1,7 +1,7 @@
-// The calls that go outward from a node: its parent, and whether it lies within another. Refusals 1 to 5 in their order, and 8; each makes
-// one search.
+// The calls that look outward from an outline node: `parent` and `is_ancestor`. Each makes one search.
 //
-// What the search answers is passed on as it stands, nothing and refusals too.
+// They test refusals 1 to 5 in this order, and the walk may give refusal 8. If the search answers nothing or a refusal, the call answers the
+// same.
 ghost use mathlib.Core.Path.{_≡_};
 ghost use mathlib.Core.Bool.{_&&_};
 ghost use Prim.Native.Nat.{_<_};
@@ -19,7 +19,7 @@ use row::Found;
 use row::Gate;
 use row::Told;
 
-// enclose(v): a handle opens, so one level back.
+// Returns the parent of v: `enclose(v)`, which is bwd(v, -1) because the bit at a handle is open.
 pub fn parent(words: &[u64], n: usize, nodes: &[i64], block: usize, v: usize) -> Found
     ensures { λ a. ⌜ paperFound a ≡ nodeAnswer parent (now (words .entry)) n (now (nodes .entry)) block v ⌝ }
     ensures { λ a. ⌜ WhereBuilt (now (words .entry)) n (now (nodes .entry)) block (paperFound a) (nodeDefined parent (now (words .entry)) n v) ⌝ }
@@ -30,7 +30,7 @@ pub fn parent(words: &[u64], n: usize, nodes: &[i64], block: usize, v: usize) ->
     }
 }
 
-// Refusals 1 to 5, in their order, for the handles a and d.
+// Tests refusals 1 to 5, in this order, for the handles a and d.
 fn admit_both(words: &[u64], n: usize, nodes: &[i64], block: usize, a: usize, d: usize) -> Gate
     ensures { λ g. ⌜ g ≡ andThen (nodesGate (length (now (words .entry))) n (length (now (nodes .entry))) block) (bothGate (now (words .entry)) n a d) ⌝ }
 {
@@ -40,7 +40,7 @@ fn admit_both(words: &[u64], n: usize, nodes: &[i64], block: usize, a: usize, d:
     }
 }
 
-// Nothing if a has no close c; else whether a <= d and d < c. A node is its own ancestor here.
+// Tests whether a is d or an ancestor of d: a <= d < c with c = `close(a)`. The answer is nothing if a has no close.
 pub fn is_ancestor(words: &[u64], n: usize, nodes: &[i64], block: usize, a: usize, d: usize) -> Told
     ensures { λ t. ⌜ paperTold t ≡ ancestorAnswer (now (words .entry)) n (now (nodes .entry)) block a d ⌝ }
     ensures { λ t. ⌜ WhereBuilt (now (words .entry)) n (now (nodes .entry)) block (paperTold t) (ancestorDefined (now (words .entry)) n a d) ⌝ }
@@ -51,7 +51,7 @@ pub fn is_ancestor(words: &[u64], n: usize, nodes: &[i64], block: usize, a: usiz
     }
 }
 
-// The same, once the tests are passed.
+// Answers `is_ancestor(a, d)` after its tests have passed.
 fn spans(words: &[u64], n: usize, nodes: &[i64], block: usize, a: usize, d: usize) -> Told
     requires { ⌜ Fine (length (now words)) n (length (now nodes)) block ⌝ }
     ensures { λ t. ⌜ paperTold t ≡ isAncestor (now (words .entry)) n (walked (now (words .entry)) n (now (nodes .entry)) block) a d ⌝ }
@@ -63,7 +63,7 @@ fn spans(words: &[u64], n: usize, nodes: &[i64], block: usize, a: usize, d: usiz
     }
 }
 
-// Whether d is at a or past it, and before c.
+// Tests whether a <= d < c.
 fn within(a: usize, d: usize, c: usize) -> Told
     ensures { λ t. ⌜ paperTold t ≡ told (leb a d && ltb d c) ⌝ }
 {

@@ -1,6 +1,6 @@
-// The calls that go from an outline node to its relatives: parent, last child and siblings, and the test whether one node contains another.
+// The calls from an outline node to its relatives: parent, last child and siblings; also the test whether one outline node contains another.
 //
-// Every call tests its arguments: refusals 1 to 5 in their order, and 8 from the search. `nothing` and refusals of a search are propagated
+// Every call tests refusals 1 to 5 in this order, and the walk may give refusal 8. `nothing` and refusals of a search are propagated
 // unchanged.
 mod ancestor;
 mod sibling;

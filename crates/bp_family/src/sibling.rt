@@ -1,7 +1,7 @@
-// The calls that go from a node to its last child, to its next sibling and to the one before: refusals 1 to 5 in their order, and 8.
+// The calls from an outline node to its last child, its next sibling and its previous sibling.
 //
-// What a search answers is passed on as it stands, nothing and refusals too. Over any node numbers it answers a position of the row,
-// forward one past its start: so neither one more nor one less wraps, and no test of that is made.
+// They test refusals 1 to 5 in this order, and the walk may give refusal 8. `nothing` and refusals of a search are propagated unchanged.
+// Over any nodes a forward walk answers a position after its start and below n. So c - 1 and c + 1 cannot overflow, and no test is needed.
 ghost use mathlib.Core.Path.{_≡_};
 ghost use Prim.Native.Nat.{_<_};
 ghost use lib.ListN.{length};
@@ -14,7 +14,7 @@ ghost use Rattle.bp_spec.specs.SiblingCalls.{lastChild, nextSibling, previousSi
 use row::Found;
 use row::Gate;
 
-// If bit v + 1 opens and v closes at c: open(c - 1).
+// Returns the last child of v: `open(c - 1)` with c = `close(v)`. It is nothing, without a search, if the bit after v is not open.
 pub fn last_child(words: &[u64], n: usize, nodes: &[i64], block: usize, v: usize) -> Found
     ensures { λ a. ⌜ paperFound a ≡ nodeAnswer lastChild (now (words .entry)) n (now (nodes .entry)) block v ⌝ }
     ensures { λ a. ⌜ WhereBuilt (now (words .entry)) n (now (nodes .entry)) block (paperFound a) (nodeDefined lastChild (now (words .entry)) n v) ⌝ }
@@ -25,7 +25,7 @@ pub fn last_child(words: &[u64], n: usize, nodes: &[i64], block: usize, v: usize
     }
 }
 
-// The same, once the tests are passed.
+// Answers `last_child(v)` after its tests have passed.
 fn last_of(words: &[u64], n: usize, nodes: &[i64], block: usize, v: usize) -> Found
     requires { ⌜ Fine (length (now words)) n (length (now nodes)) block ⌝ }
     requires { ⌜ v < n ⌝ }
@@ -41,7 +41,7 @@ fn last_of(words: &[u64], n: usize, nodes: &[i64], block: usize, v: usize) -> Fo
     }
 }
 
-// close(v) + 1, if that is an open bit of the row.
+// Returns the next sibling of v: the position after `close(v)` if that is an open bit of the row, otherwise nothing.
 pub fn next_sibling(words: &[u64], n: usize, nodes: &[i64], block: usize, v: usize) -> Found
     ensures { λ a. ⌜ paperFound a ≡ nodeAnswer nextSibling (now (words .entry)) n (now (nodes .entry)) block v ⌝ }
     ensures { λ a. ⌜ WhereBuilt (now (words .entry)) n (now (nodes .entry)) block (paperFound a) (nodeDefined nextSibling (now (words .entry)) n v) ⌝ }
@@ -52,7 +52,7 @@ pub fn next_sibling(words: &[u64], n: usize, nodes: &[i64], block: usize, v: usi
     }
 }
 
-// The same, once the tests are passed.
+// Answers `next_sibling(v)` after its tests have passed.
 fn next_of(words: &[u64], n: usize, nodes: &[i64], block: usize, v: usize) -> Found
     requires { ⌜ Fine (length (now words)) n (length (now nodes)) block ⌝ }
     ensures { λ a. ⌜ paperFound a ≡ nextSibling (now (words .entry)) n (walked (now (words .entry)) n (now (nodes .entry)) block) v ⌝ }
@@ -64,7 +64,7 @@ fn next_of(words: &[u64], n: usize, nodes: &[i64], block: usize, v: usize) -> Fo
     }
 }
 
-// If v > 0 and bit v - 1 closes: open(v - 1).
+// Returns the previous sibling of v: `open(v - 1)` if v > 0 and position v - 1 is a close bit. Otherwise it is nothing, without a search.
 pub fn previous_sibling(words: &[u64], n: usize, nodes: &[i64], block: usize, v: usize) -> Found
     ensures { λ a. ⌜ paperFound a ≡ nodeAnswer previousSibling (now (words .entry)) n (now (nodes .entry)) block v ⌝ }
     ensures { λ a. ⌜ WhereBuilt (now (words .entry)) n (now (nodes .entry)) block (paperFound a) (nodeDefined previousSibling (now (words .entry)) n v) ⌝ }
@@ -75,7 +75,7 @@ pub fn previous_sibling(words: &[u64], n: usize, nodes: &[i64], block: usize, v:
     }
 }
 
-// The same, once the tests are passed.
+// Answers `previous_sibling(v)` after its tests have passed.
 fn previous_of(words: &[u64], n: usize, nodes: &[i64], block: usize, v: usize) -> Found
     requires { ⌜ Fine (length (now words)) n (length (now nodes)) block ⌝ }
     requires { ⌜ v < n ⌝ }

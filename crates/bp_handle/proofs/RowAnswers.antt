@@ -1,6 +1,10 @@
--- What a call that searches nothing answers, one law a branch.
---   opens-past, opens-in, closes-past, closes-not, closes-in: a bit, in the row or past it
---   root-some, root-none; handle-yes, handle-no; leaf-no, leaf-yes: the calls
+-- The calls that need no search, and the bit test that they make: one law per branch of the code.
+--   root-some, root-none: `root` on a row with bits, and on an empty row
+--   opens-past, closes-past: a position from n on is neither an open bit nor a close bit of the row
+--   opens-in: a position below n is open exactly if its bit is 1
+--   closes-not, closes-in: a position below n is no close bit if its bit is 1, and a close bit otherwise
+--   handle-yes, handle-no: a position that is an open bit of the row is the answer; otherwise the answer is nothing
+--   leaf-no, leaf-yes: `is_leaf` answers by whether the next bit is a close bit of the row
 -- Assumes nothing.
 use mathlib.Core.Path.{_≡_}
 use mathlib.Core.Bool.{true, false}
@@ -43,7 +47,7 @@ module _ (ws : List ℕ) (n : ℕ) where
       unfolding closes
       closes-not b = let e = eqb-true (bitAt ws i) 1 b in rw (lt-ltb i n l, ne-eqb (bitAt ws i) 0 (λ z. omega arith))
 
-      -- a bit that does not open closes
+      -- A bit below n that is not open is a close bit.
       pub closes-in : eqb (bitAt ws i) 1 ≡ false → closes ws n i ≡ true
       unfolding closes
       closes-in b = let e = eqb-false (bitAt ws i) 1 b in rw (lt-ltb i n l, eq-eqb (bitAt ws i) 0 (omega arith))

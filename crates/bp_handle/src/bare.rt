@@ -1,4 +1,4 @@
-// The calls that search nothing: root, first_child, is_leaf.
+// The calls that need no search: `root`, `first_child` and `is_leaf`.
 ghost use mathlib.Core.Path.{_≡_};
 ghost use Prim.Native.Nat.{_+_, _*_, _≤_, _<_};
 ghost use lib.ListN.{length};
@@ -11,7 +11,7 @@ use row::Found;
 use row::Gate;
 use row::Told;
 
-// 0, nothing if n = 0.
+// Returns 0, the root of a row with bits, and nothing if n = 0.
 pub fn root(words: &[u64], n: usize) -> Found
     ensures { λ a. ⌜ paperFound a ≡ through (rowGate (length (now (words .entry))) n) (root n) ⌝ }
 {
@@ -21,7 +21,7 @@ pub fn root(words: &[u64], n: usize) -> Found
     }
 }
 
-// Whether i is an open bit of the row.
+// Tests whether position i is an open bit of the row.
 pub fn is_open(words: &[u64], n: usize, i: usize) -> bool
     requires { ⌜ n ≤ 64 * length (now words) ⌝ }
     ensures { λ r. ⌜ r ≡ opens (now (words .entry)) n i ⌝ }
@@ -33,7 +33,8 @@ pub fn is_open(words: &[u64], n: usize, i: usize) -> bool
     }
 }
 
-// c + 1, if that is an open bit of the row: the first child where c is a handle, the next sibling where c is a close.
+// Returns c + 1 if that is an open bit of the row, otherwise nothing. This is the first child if c is a handle, and the next sibling if c
+// is the close bit of an outline node.
 pub fn handle_after(words: &[u64], n: usize, c: usize) -> Found
     requires { ⌜ n ≤ 64 * length (now words) ⌝ }
     requires { ⌜ c < n ⌝ }
@@ -47,7 +48,7 @@ pub fn handle_after(words: &[u64], n: usize, c: usize) -> Found
     }
 }
 
-// v + 1, if that bit opens.
+// Returns the first child of v: v + 1 if that is an open bit of the row, otherwise nothing.
 pub fn first_child(words: &[u64], n: usize, v: usize) -> Found
     ensures { λ a. ⌜ paperFound a ≡ handleAnswer firstChild (now (words .entry)) n v ⌝ }
 {
@@ -57,7 +58,7 @@ pub fn first_child(words: &[u64], n: usize, v: usize) -> Found
     }
 }
 
-// Whether bit v + 1 exists and closes.
+// Tests whether v is an outline leaf: position v + 1 is a close bit of the row.
 pub fn is_leaf(words: &[u64], n: usize, v: usize) -> Told
     ensures { λ a. ⌜ paperTold a ≡ handleAnswer isLeaf (now (words .entry)) n v ⌝ }
 {
@@ -67,7 +68,7 @@ pub fn is_leaf(words: &[u64], n: usize, v: usize) -> Told
     }
 }
 
-// The same, once the tests are passed.
+// Answers `is_leaf(v)` after its tests have passed.
 fn leaf_at(words: &[u64], n: usize, v: usize) -> Told
     requires { ⌜ n ≤ 64 * length (now words) ⌝ }
     requires { ⌜ v < n ⌝ }

@@ -1,6 +1,7 @@
-// Handles. A node is its handle, the position at which it opens: refusal 5 where that is not an open bit of the row. Here are the tests
-// before every call that takes one, and the calls that read the row alone and search nothing: they take no node numbers, so refusals 2
-// and 3, and 5 where a handle is taken.
+// Handles: the tests before every call that takes one, and the calls that need no search.
+//
+// A handle is the position of the open bit of an outline node. Anything else is refusal 5. The calls `root`, `first_child` and `is_leaf`
+// read only the row and take no node buffer. So they test only refusals 2 and 3, and refusal 5 if they take a handle.
 mod bare;
 mod gate;
 

@@ -1,7 +1,10 @@
--- The first and the last node of a level: what each answers, one law a case, and what their gates make of it.
---   level-refused, level-passed, rightmost-refused, rightmost-passed: what a call on a level promises, refused or not
---   leftmost-none, leftmost-root, leftmost-far, leftmost-walk; rightmost-far, rightmost-walk
---   rightmost-right of Rightmost: the theorem on level_rightmost
+-- `level_leftmost` and `level_rightmost`: the promise of each, and one law per branch of the code.
+--   level-refused, level-passed: the promise of a call on a level if a test refuses, and if all pass
+--   rightmost-refused, rightmost-passed: the same for `level_rightmost`, which starts differently by the walk and by definition
+--   leftmost-none, leftmost-root: `level_leftmost` is nothing on an empty row, and 0 for level 0 of a row with bits
+--   leftmost-far, leftmost-walk: for a level above n it is nothing; for any level but 0 it is what the walk finds
+--   rightmost-far, rightmost-walk: `level_rightmost` for a level above n is nothing, otherwise what follows from its start
+-- The theorem that both starts of `level_rightmost` agree is rightmost-right of RightmostStart, in the crate bp_spec.
 -- Assumes nothing.
 use mathlib.Core.Path.{_≡_, refl, _∙_}
 use mathlib.Core.Bool.{Bool, true, false, _&&_}
@@ -30,17 +33,17 @@ use Rattle.bp_level.proofs.NodeLevels.{walk-beyond}
 use Rattle.bp_spec.specs.LevelEnds.{levelLeftmost, levelRightmost, rootStart, lastStart, levelAnswer, rightmostAnswer, rightmostDefined}
 use Rattle.bp_spec.proofs.RightmostStart.{rightmost-right}
 
--- ---- the gates
+-- ---- the tests
 module _ (ws : List ℕ) (n : ℕ) (s : List ℤ) (B : ℕ) where
-  -- refusals 1 to 4
+  -- Refusals 1 to 4.
   abbrev pub gate : Gate
   gate = nodesGate (length ws) n (length s) B
 
-  -- what a call promises of its answer a, x being the walk's and d the definition's
+  -- The promise of a call: its answer a is the answer x by the walk, and over nodes as built the definition d.
   abbrev pub LevelPromise : Answer → Answer → Answer → Type 0
   LevelPromise x d a = (a ≡ x) × WhereBuilt ws n s B a d
 
-  -- ---- of a call on a level
+  -- ---- the promise of a call on a level
   refuses : (x d : Answer) (e : Refusal) → gate ≡ Refuse e → LevelPromise (through gate x) d (refused (numberOf e))
   refuses x d e g = (rw g, λ o b. let z : _≡_ {A = ℕ} 0 1 = cc in absurd (omega arith))
 
@@ -57,7 +60,7 @@ module _ (ws : List ℕ) (n : ℕ) (s : List ℤ) (B : ℕ) where
     level-passed a g p =
         answers (call ws n (walked ws n s B) k) (call ws n (defined ws n) k) a g p (λ b. call-defined ws n s B g b (λ y. call ws n y k))
 
-  -- level_rightmost starts by the root's total, by definition at 2*ones - 1
+  -- `level_rightmost` starts by the total of the root; by definition it starts at 2*ones - 1.
   module _ (k : ℕ) where
     abbrev byWalk : Answer
     byWalk = levelRightmost ws n (walked ws n s B) (rootStart n s) k
@@ -75,7 +78,7 @@ module _ (ws : List ℕ) (n : ℕ) (s : List ℤ) (B : ℕ) where
         (λ b. call-defined ws n s B g b (λ y. levelRightmost ws n y (rootStart n s) k) ∙ rightmost-right ws n s B (omega arith) (f .short) b k)
 
 module _ (ws : List ℕ) (n : ℕ) (s : List ℤ) (B : ℕ) where
-  -- ---- level_leftmost
+  -- ---- `level_leftmost`
   module _ (k : ℕ) where
     pub leftmost-none : n ≡ 0 → nothing ≡ levelLeftmost ws n (walked ws n s B) k
     unfolding levelLeftmost
@@ -97,13 +100,13 @@ module _ (ws : List ℕ) (n : ℕ) (s : List ℤ) (B : ℕ) where
       pub leftmost-far : n < k → nothing ≡ levelLeftmost ws n (walked ws n s B) k
       leftmost-far h = walk-beyond ws n s B forward 0 (pos k) (omega arith) ∙ leftmost-walk
 
-    -- ---- level_rightmost
+    -- ---- `level_rightmost`
     module _ (x : Answer) where
       pub rightmost-far : n < k → nothing ≡ levelRightmost ws n (walked ws n s B) x k
       unfolding levelRightmost
       rightmost-far h = rw (lt-ltb n k h)
 
-      -- from where it starts
+      -- The steps of `level_rightmost` from position i on.
       abbrev from : ℕ → Answer
       from i = onward (walk backward ws n s B i (pos k) .answer) (openOf (walked ws n s B))
 

@@ -1,11 +1,13 @@
--- The calls on levels that take a node: what each answers, one law a case (what their gates make of it: Nodes, in search). What is
--- said of a level, of a search's answer and of the walk holds for the two ends of a level too: they cite it from here.
---   on-at, on-nothing, on-refused: what a search passes on
---   next-is, prev-is: level_next and level_prev as such a passing on
---   told-far, told-near: what the test of a level found
---   level-fits, level-read, less-fits, less-read: a level and its negative as the machine has them
---   walk-beyond: more than n levels are nowhere
---   ancestor-self, ancestor-far, ancestor-up
+-- The calls on levels that take a handle, after their tests have passed: one law per branch of the code.
+-- HandleAnswers, in the crate bp_spec, has the laws for their tests. The proofs of `level_leftmost` and `level_rightmost` cite this file too.
+--   on-at, on-nothing, on-refused: a call of two steps, by the answer of its first search
+--   next-is, prev-is: `level_next` and `level_prev` as such calls of two steps
+--   told-far, told-near: what the result of `too_far` says about the level
+--   level-fits, level-read: a level up to n is in the range of i64, and the cast keeps its value
+--   less-fits, less-read: the same for the negated level
+--   walk-beyond: a walk for a difference above n, or below -n, answers nothing
+--   ancestor-self, ancestor-far: `level_ancestor` for level 0 is v, and for a level above n nothing
+--   ancestor-up: for any level but 0 it is what the walk finds
 -- Assumes nothing.
 use mathlib.Core.Path.{_≡_, refl, sym, _∙_}
 use mathlib.Core.Bool.{Bool, true, false}
@@ -19,6 +21,7 @@ use mir.Syntax.{w64}
 use mir.Val.{SFits, toZ, ofZ}
 use mir.Facts.{toZ-pos}
 use mir.ValLaws.{toZ-ofZ}
+use Rattle.row.specs.Limits.{maxBits}
 use Rattle.ints.specs.Sides.{size}
 use Rattle.ints.proofs.Linear.{diff}
 use Rattle.ints.proofs.Shapes.{zsum}
@@ -32,7 +35,7 @@ use Rattle.bp_spec.specs.SearchPair.{Searches, walked, onward, openOf}
 use Rattle.walk_code.proofs.Answers.{walk-end, walk-far}
 use Rattle.bp_spec.specs.LevelCalls.{levelAncestor, levelNext, levelPrev}
 
--- ---- what a search passes on
+-- ---- a call of two steps
 module _ (x : Answer) (next : ℕ → Answer) (y : Found) (e : paperFound y ≡ x) where
   pub on-at : (j : ℕ) (a : Answer) → y ≡ At j → a ≡ next j → a ≡ onward x next
   on-at j a h f = rw (← e, h) f
@@ -59,7 +62,7 @@ told-far {n} {k} p q = ltb-true n k (sym p ∙ q)
 pub told-near : {n k : ℕ} {b : Bool} → b ≡ ltb n k → b ≡ false → k ≤ n
 told-near {n} {k} p q = ltb-false n k (sym p ∙ q)
 
-module _ (n k : ℕ) (short : n ≤ 4294967296) (h : k ≤ n) where
+module _ (n k : ℕ) (short : n ≤ maxBits) (h : k ≤ n) where
   pub level-fits : SFits w64 (pos k)
   level-fits = omega zsum
 
@@ -85,7 +88,7 @@ module _ (ws : List ℕ) (n : ℕ) (s : List ℤ) (B : ℕ) where
       go true e = walk-end w ws n s B i r e
       go false e = walk-far w ws n s B i r e h
 
-  -- ---- level_ancestor
+  -- ---- `level_ancestor`
   module _ (v k : ℕ) where
     pub ancestor-self : k ≡ 0 → at v ≡ levelAncestor k ws n (walked ws n s B) v
     unfolding levelAncestor

@@ -1,13 +1,13 @@
-// The first and the last node of a level. No node is taken: refusals 1 to 4, and 8. A level is any u64; nothing is found for one
-// above n.
+// The first and the last outline node of a level: `level_leftmost` and `level_rightmost`. They take a level and no handle.
 //
-// The last is looked for back from 2*ones - 1. The opens are not counted: over nodes as built the root's total says how many there
-// are, and so the root is examined first. Most of what is proved here is that start; it stands apart from the calls on a node, in
-// `level`, which need none of it.
+// They test refusals 1 to 4, and the walk or the root may give refusal 8. A level is any u64; above n the answer is nothing.
+// `level_rightmost` searches backward from 2*ones - 1. It does not count the open bits: over nodes as built the total of the root tells
+// their number. So it examines the root first.
 ghost use mathlib.Core.Path.{_≡_};
 ghost use Prim.Native.Nat.{_≤_, _<_};
 ghost use lib.IntN.{pos, _+ℤ_, _-ℤ_};
 ghost use lib.ListN.{length};
+ghost use Rattle.row.specs.Limits.{maxBits};
 ghost use Rattle.ints.specs.Sides.{size};
 ghost use Rattle.row.specs.Answer.{paperFound};
 ghost use Rattle.mmt_layout.specs.Layout.{Fine, width};
@@ -22,9 +22,9 @@ use row::Refusal;
 use walk_code::walk_fwd;
 use walk_examine::Examined;
 
-// ---- once the tests are passed
+// ---- after the tests
 
-// 0 if k = 0 and there are bits, else fwd(0, k).
+// Answers `level_leftmost(k)`: 0 for level 0 of a row with bits, otherwise fwd(0, k).
 fn leftmost_at(words: &[u64], n: usize, nodes: &[i64], block: usize, k: u64) -> Found
     requires { ⌜ Fine (length (now words)) n (length (now nodes)) block ⌝ }
     ensures { λ a. ⌜ paperFound a ≡ levelLeftmost (now (words .entry)) n (walked (now (words .entry)) n (now (nodes .entry)) block) k ⌝ }
@@ -41,10 +41,10 @@ fn leftmost_at(words: &[u64], n: usize, nodes: &[i64], block: usize, k: u64) -> 
     walk_fwd(words, n, nodes, block, 0, k as i64)
 }
 
-// n + total - 1, if that is a position of the row. Foreign nodes can lead below 0 or past the row.
+// Returns n + total - 1 if that is a position of the row, otherwise nothing. With foreign nodes the number can be below 0 or at least n.
 fn start_by(n: usize, total: i64) -> Found
-    requires { ⌜ n ≤ 4294967296 ⌝ }
-    requires { ⌜ size total ≤ 4294967296 ⌝ }
+    requires { ⌜ n ≤ maxBits ⌝ }
+    requires { ⌜ size total ≤ maxBits ⌝ }
     ensures { λ a. ⌜ paperFound a ≡ inRow n (pos n +ℤ total -ℤ pos 1) ⌝ }
 {
     let i = n as i64 + total - 1;
@@ -58,9 +58,9 @@ fn start_by(n: usize, total: i64) -> Found
     Found::Nothing
 }
 
-// Where level_rightmost starts: the root is examined first.
+// Returns the position where `level_rightmost` starts. It examines the root first and refuses by 8 if an entry is out of range.
 fn root_start(n: usize, nodes: &[i64]) -> Found
-    requires { ⌜ n ≤ 4294967296 ⌝ }
+    requires { ⌜ n ≤ maxBits ⌝ }
     requires { ⌜ (0 < n → width ≤ length (now nodes)) ⌝ }
     ensures { λ a. ⌜ paperFound a ≡ rootStart n (now (nodes .entry)) ⌝ }
 {
@@ -73,7 +73,7 @@ fn root_start(n: usize, nodes: &[i64]) -> Found
     }
 }
 
-// open(bwd(start, k)); for k > n nothing, with the root unread.
+// Answers `level_rightmost(k)`: `open(j)` with j = bwd(start, k). For a level above n the answer is nothing, and the root is not read.
 fn rightmost_at(words: &[u64], n: usize, nodes: &[i64], block: usize, k: u64) -> Found
     requires { ⌜ Fine (length (now words)) n (length (now nodes)) block ⌝ }
     ensures { λ a. ⌜ paperFound a ≡ levelRightmost (now (words .entry)) n (walked (now (words .entry)) n (now (nodes .entry)) block) (rootStart n (now (nodes .entry))) k ⌝ }
@@ -90,7 +90,7 @@ fn rightmost_at(words: &[u64], n: usize, nodes: &[i64], block: usize, k: u64) ->
 
 // ---- the calls
 
-// The first node of level k: 0 if k = 0 and n > 0, else fwd(0, k).
+// Returns the first outline node of level k: 0 for level 0 of a row with bits, otherwise fwd(0, k).
 pub fn level_leftmost(words: &[u64], n: usize, nodes: &[i64], block: usize, k: u64) -> Found
     ensures { λ a. ⌜ paperFound a ≡ levelAnswer levelLeftmost (now (words .entry)) n (now (nodes .entry)) block k ⌝ }
     ensures { λ a. ⌜ WhereBuilt (now (words .entry)) n (now (nodes .entry)) block (paperFound a) (levelLeftmost (now (words .entry)) n (defined (now (words .entry)) n) k) ⌝ }
@@ -101,7 +101,7 @@ pub fn level_leftmost(words: &[u64], n: usize, nodes: &[i64], block: usize, k: u
     }
 }
 
-// The last node of level k: open(bwd(2*ones - 1, k)).
+// Returns the last outline node of level k: `open(j)` with j = bwd(2*ones - 1, k).
 pub fn level_rightmost(words: &[u64], n: usize, nodes: &[i64], block: usize, k: u64) -> Found
     ensures { λ a. ⌜ paperFound a ≡ rightmostAnswer (now (words .entry)) n (now (nodes .entry)) block k ⌝ }
     ensures { λ a. ⌜ WhereBuilt (now (words .entry)) n (now (nodes .entry)) block (paperFound a) (rightmostDefined (now (words .entry)) n k) ⌝ }

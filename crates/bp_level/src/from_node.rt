@@ -1,8 +1,7 @@
-// The calls on levels that take a node: the ancestor so many levels up, the neighbours on a level. Refusals 1 to 5, and 8. A level
-// is any u64; nothing is found for one above n.
+// The calls on levels that take a handle: `level_ancestor`, `level_next` and `level_prev`.
 //
-// The two ends of a level take no node, and the last of them needs a theory of where it starts: they are a crate of their own, `ends`,
-// so that a change here is checked without it. What both need, the test of a level and the open of what lies back, is here.
+// They test refusals 1 to 5, and the walk may give refusal 8. `level_ancestor` takes any u64 as its level; above n the answer is nothing.
+// The functions `too_far` and `open_before` are public because `level_leftmost` and `level_rightmost` use them too.
 ghost use mathlib.Core.Path.{_≡_};
 ghost use lib.Dec.{ltb};
 ghost use lib.ListN.{length};
@@ -18,16 +17,17 @@ use row::Gate;
 use walk_code::walk_bwd;
 use walk_code::walk_fwd;
 
-// k > n: no two positions of n bits lie so many levels apart. Tested on the u64, of which not every one is an i64.
+// Tests whether k > n: the excess of two positions of n bits never differs by more than n. The test uses the u64, because not every u64 is
+// an i64.
 pub fn too_far(n: usize, k: u64) -> bool
     ensures { λ b. ⌜ b ≡ ltb n k ⌝ }
 {
     (n as u64) < k
 }
 
-// ---- once the tests are passed
+// ---- after the tests
 
-// v if k = 0, else bwd(v, -k).
+// Answers `level_ancestor(v, k)`: v for k = 0, otherwise bwd(v, -k).
 fn ancestor_at(words: &[u64], n: usize, nodes: &[i64], block: usize, v: usize, k: u64) -> Found
     requires { ⌜ Fine (length (now words)) n (length (now nodes)) block ⌝ }
     ensures { λ a. ⌜ paperFound a ≡ levelAncestor k (now (words .entry)) n (walked (now (words .entry)) n (now (nodes .entry)) block) v ⌝ }
@@ -41,7 +41,7 @@ fn ancestor_at(words: &[u64], n: usize, nodes: &[i64], block: usize, v: usize, k
     walk_bwd(words, n, nodes, block, v, -(k as i64))
 }
 
-// fwd(close(v), 1).
+// Answers `level_next(v)`: fwd(c, 1) with c = `close(v)`.
 fn next_of(words: &[u64], n: usize, nodes: &[i64], block: usize, v: usize) -> Found
     requires { ⌜ Fine (length (now words)) n (length (now nodes)) block ⌝ }
     ensures { λ a. ⌜ paperFound a ≡ levelNext (now (words .entry)) n (walked (now (words .entry)) n (now (nodes .entry)) block) v ⌝ }
@@ -53,7 +53,7 @@ fn next_of(words: &[u64], n: usize, nodes: &[i64], block: usize, v: usize) -> Fo
     }
 }
 
-// open(bwd(i, r)).
+// Returns `open(j)` with j = bwd(i, r).
 pub fn open_before(words: &[u64], n: usize, nodes: &[i64], block: usize, i: usize, r: i64) -> Found
     requires { ⌜ Fine (length (now words)) n (length (now nodes)) block ⌝ }
     ensures { λ a. ⌜ paperFound a ≡ onward (walked (now (words .entry)) n (now (nodes .entry)) block .bwd i r) (openOf (walked (now (words .entry)) n (now (nodes .entry)) block)) ⌝ }
@@ -67,7 +67,7 @@ pub fn open_before(words: &[u64], n: usize, nodes: &[i64], block: usize, i: usiz
 
 // ---- the calls
 
-// The ancestor k levels up: v if k = 0, else bwd(v, -k).
+// Returns the ancestor of v that is k levels up: v for k = 0, otherwise bwd(v, -k).
 pub fn level_ancestor(
     words: &[u64],
     n: usize,
@@ -85,7 +85,7 @@ pub fn level_ancestor(
     }
 }
 
-// The next node of v's level: fwd(close(v), 1).
+// Returns the next outline node on the level of v: fwd(c, 1) with c = `close(v)`.
 pub fn level_next(words: &[u64], n: usize, nodes: &[i64], block: usize, v: usize) -> Found
     ensures { λ a. ⌜ paperFound a ≡ nodeAnswer levelNext (now (words .entry)) n (now (nodes .entry)) block v ⌝ }
     ensures { λ a. ⌜ WhereBuilt (now (words .entry)) n (now (nodes .entry)) block (paperFound a) (nodeDefined levelNext (now (words .entry)) n v) ⌝ }
@@ -96,7 +96,7 @@ pub fn level_next(words: &[u64], n: usize, nodes: &[i64], block: usize, v: usize
     }
 }
 
-// The node before v on its level: open(bwd(v, 1)).
+// Returns the previous outline node on the level of v: `open(j)` with j = bwd(v, 1).
 pub fn level_prev(words: &[u64], n: usize, nodes: &[i64], block: usize, v: usize) -> Found
     ensures { λ a. ⌜ paperFound a ≡ nodeAnswer levelPrev (now (words .entry)) n (now (nodes .entry)) block v ⌝ }
     ensures { λ a. ⌜ WhereBuilt (now (words .entry)) n (now (nodes .entry)) block (paperFound a) (nodeDefined levelPrev (now (words .entry)) n v) ⌝ }

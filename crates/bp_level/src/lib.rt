@@ -1,6 +1,6 @@
-// The calls on levels: from an outline node along its level or up to an ancestor, and the two ends of a level.
+// The calls on levels: along the level of an outline node, up to an ancestor, and the first and the last outline node of a level.
 //
-// A level is any u64. The answer is `nothing` for a level above n, because no two positions of n bits lie so many levels apart.
+// A level is any u64. For a level above n the answer is `nothing`, because the excess of two positions of n bits differs by at most n.
 mod ends;
 mod from_node;
 

@@ -1,6 +1,7 @@
-// The two searches, and close, open and enclose, which are single searches. They take any position; refusals 1, 2, 3, 4 and 8.
+// The two searches, and `close`, `open` and `enclose`, which are one search each. They take any position.
 //
-// The words and the nodes are lent and never written. Over nodes as built the walk's answer is document 01's definition.
+// They test refusals 1 to 4, and the walk may give refusal 8. The words and the node buffer are borrowed and never written. Over nodes as
+// built the answers are the definitions of SCOPE, The two searches and The calls.
 ghost use mathlib.Core.Path.{_≡_};
 ghost use lib.IntN.{negsuc};
 ghost use Rattle.row.specs.Answer.{paperFound};
@@ -9,7 +10,7 @@ ghost use Rattle.bp_spec.specs.SearchCalls.{fwdAnswer, bwdAnswer, outward, Wher
 use row::Found;
 use row::Gate;
 
-// The least j with i < j < n and E(j+1) = E(i+1) + r.
+// Returns the smallest position j with i < j < n and E(j+1) = E(i+1) + r, or nothing.
 pub fn fwd_search(words: &[u64], n: usize, nodes: &[i64], block: usize, i: usize, r: i64) -> Found
     ensures { λ a. ⌜ paperFound a ≡ fwdAnswer (now (words .entry)) n (now (nodes .entry)) block i r ⌝ }
     ensures { λ a. ⌜ WhereBuilt (now (words .entry)) n (now (nodes .entry)) block (paperFound a) (fwd (now (words .entry)) n i r) ⌝ }
@@ -20,7 +21,7 @@ pub fn fwd_search(words: &[u64], n: usize, nodes: &[i64], block: usize, i: usize
     }
 }
 
-// The greatest j < i with E(j) = E(i) + r.
+// Returns the greatest position j with j < i and E(j) = E(i) + r, or nothing.
 pub fn bwd_search(words: &[u64], n: usize, nodes: &[i64], block: usize, i: usize, r: i64) -> Found
     ensures { λ a. ⌜ paperFound a ≡ bwdAnswer (now (words .entry)) n (now (nodes .entry)) block i r ⌝ }
     ensures { λ a. ⌜ WhereBuilt (now (words .entry)) n (now (nodes .entry)) block (paperFound a) (bwd (now (words .entry)) n i r) ⌝ }
@@ -31,7 +32,7 @@ pub fn bwd_search(words: &[u64], n: usize, nodes: &[i64], block: usize, i: usize
     }
 }
 
-// close(i) = fwd(i, -1).
+// Returns the position of the `)` that closes the `(` at i: fwd(i, -1).
 pub fn close(words: &[u64], n: usize, nodes: &[i64], block: usize, i: usize) -> Found
     ensures { λ a. ⌜ paperFound a ≡ fwdAnswer (now (words .entry)) n (now (nodes .entry)) block i (negsuc 0) ⌝ }
     ensures { λ a. ⌜ WhereBuilt (now (words .entry)) n (now (nodes .entry)) block (paperFound a) (fwd (now (words .entry)) n i (negsuc 0)) ⌝ }
@@ -39,7 +40,7 @@ pub fn close(words: &[u64], n: usize, nodes: &[i64], block: usize, i: usize) -> 
     fwd_search(words, n, nodes, block, i, -1)
 }
 
-// open(i) = bwd(i, -1).
+// Returns the position of the `(` that the `)` at i closes: bwd(i, -1).
 pub fn open(words: &[u64], n: usize, nodes: &[i64], block: usize, i: usize) -> Found
     ensures { λ a. ⌜ paperFound a ≡ bwdAnswer (now (words .entry)) n (now (nodes .entry)) block i (negsuc 0) ⌝ }
     ensures { λ a. ⌜ WhereBuilt (now (words .entry)) n (now (nodes .entry)) block (paperFound a) (bwd (now (words .entry)) n i (negsuc 0)) ⌝ }
@@ -47,8 +48,8 @@ pub fn open(words: &[u64], n: usize, nodes: &[i64], block: usize, i: usize) -> F
     bwd_search(words, n, nodes, block, i, -1)
 }
 
-// How far out of position i its encloser opens: one level from an open bit, two from any other position.
-// A bit below n that the words lack does not open; the search refuses such a row whatever it is asked.
+// Returns the difference that `enclose` searches for: -1 at an open bit of the row, -2 at any other position.
+// A position below n past the end of the words counts as not open. The value does not matter there, because the search gives refusal 3.
 fn out_of(words: &[u64], n: usize, i: usize) -> i64
     ensures { λ r. ⌜ r ≡ outward (now (words .entry)) n i ⌝ }
 {
@@ -61,7 +62,7 @@ fn out_of(words: &[u64], n: usize, i: usize) -> i64
     if row::opens_at(words, i) { -1 } else { -2 }
 }
 
-// enclose(i) = bwd(i, -1) at an open bit, bwd(i, -2) at a close bit.
+// Returns the open position of the pair around position i: bwd(i, -1) at an open bit of the row, bwd(i, -2) at any other position.
 pub fn enclose(words: &[u64], n: usize, nodes: &[i64], block: usize, i: usize) -> Found
     ensures { λ a. ⌜ paperFound a ≡ bwdAnswer (now (words .entry)) n (now (nodes .entry)) block i (outward (now (words .entry)) n i) ⌝ }
     ensures { λ a. ⌜ WhereBuilt (now (words .entry)) n (now (nodes .entry)) block (paperFound a) (bwd (now (words .entry)) n i (outward (now (words .entry)) n i)) ⌝ }

@@ -1,7 +1,10 @@
--- What each call may answer, over any words, nodes and block size.
---   one, two, three, four: where a number stands in a list; behind: an answer of the walk behind a gate
---   free-may, held-may, bare-may: calls over nodes; those on a handle besides; those on a handle without nodes
---   answers-may: each call
+-- The values and refusal numbers that each call may answer, over any words, any node buffer and any block size.
+--   one, two, three, four: the first to fourth number of a list is a member of it
+--   behind: a walk's answer behind a gate gives only the gate's refusals and 8
+--   free-may: a call over nodes that takes no handle
+--   held-may: a call over nodes that takes a handle
+--   bare-may: a call that takes a handle and no nodes
+--   answers-may: each call stays within its kind (specs/Ranges)
 -- Assumes nothing.
 use mathlib.Core.Path.{_≡_, refl}
 use mathlib.Core.List.{List, [], _∷_, List·Memᴰ·head, List·Memᴰ·tail, List·Memᴰ·eq-of-singleton, Memᴰ·cast}
@@ -36,7 +39,7 @@ use Rattle.bp_spec.proofs.CallRange.{may-wider, may-root, may-first-chi
 use Rattle.bp_spec.proofs.WalkRange.{walk-may, root-may}
 use Rattle.bp_spec.proofs.GateRange.{RefusedBy, refused-then, refused-row, refused-nodes, refused-handle, may-through, handle-of}
 
--- ---- numbers of a list
+-- ---- membership in a list of numbers
 pub one : {k : ℕ} {l : List ℕ} → Among k (k ∷ l)
 one = List·Memᴰ·head refl
 
@@ -49,7 +52,7 @@ three = List·Memᴰ·tail two
 pub four : {h i j k : ℕ} {l : List ℕ} → Among k (h ∷ i ∷ j ∷ k ∷ l)
 four = List·Memᴰ·tail three
 
--- those of a call over nodes, without a handle and with one; those of a call without nodes
+-- The refusals of a call over nodes without a handle, of one with a handle, and of a call on a handle without nodes.
 abbrev free : List ℕ
 free = 1 ∷ 2 ∷ 3 ∷ 4 ∷ 8 ∷ []
 
@@ -59,7 +62,7 @@ held = 1 ∷ 2 ∷ 3 ∷ 4 ∷ 5 ∷ 8 ∷ []
 abbrev bare : List ℕ
 bare = 2 ∷ 3 ∷ 5 ∷ []
 
--- an answer of the walk, behind a gate
+-- A walk's answer behind a gate is a value below b, nothing, a refusal of the gate, or refusal 8.
 behind : (b : ℕ) (l : List ℕ) → Among 8 l → (g : Gate) (a : Answer) → RefusedBy l g → (g ≡ Pass → May b (8 ∷ []) a) → May b l (through g a)
 behind b l e g a h f = may-through l b g a h (λ o. may-wider b (8 ∷ []) l (λ k i. Memᴰ·cast (List·Memᴰ·eq-of-singleton i) e) a (f o))
 

@@ -1,8 +1,11 @@
--- Calls made of searches that answer positions below n answer positions below n, and refuse by no other number than the searches.
---   may-wider: more numbers; may-onward, may-cond, may-told: the ways in which calls are put together
---   may-handle-at, may-root, may-first-child, may-leaf: calls without a search
---   may-parent, may-last-child, may-next-sibling, may-previous-sibling, may-ancestor, may-level-ancestor, may-next, may-prev,
---     may-leftmost, may-rightmost: calls by searches
+-- Calls that are made of searches. If the searches answer positions below n and refuse by certain numbers, so do the calls.
+--   may-wider: an answer that may refuse by some numbers may refuse by more numbers
+--   may-onward, may-cond, may-told: a second step, a choice, and a yes or no stay within the bounds
+--   may-handle-at: an open bit of the row, or nothing
+--   may-root, may-first-child, may-leaf: the calls without a search
+--   may-parent, may-last-child, may-next-sibling, may-previous-sibling: the calls that find a neighbour of an outline node
+--   may-ancestor: `is_ancestor` answers 1, 0 or what the search gives
+--   may-level-ancestor, may-next, may-prev, may-leftmost, may-rightmost: the calls on levels
 -- Assumes nothing.
 use mathlib.Core.Path.{_≡_, refl}
 use mathlib.Core.Bool.{Bool, true, false, cond, _&&_}
@@ -48,7 +51,7 @@ module _ (l : List ℕ) where
     may-handle-at : (i : ℕ) → May n l (handleAt ws n i)
     may-handle-at i = may-cond n (opens ws n i) (at i) nothing (λ o. opens-low ws n i o) tt
 
-    -- ---- without a search
+    -- ---- calls without a search
     pub may-root : May n l (root n)
     unfolding root
     may-root = may-cond n (ltb 0 n) (at 0) nothing (λ h. ltb-true 0 n h) tt
@@ -61,7 +64,7 @@ module _ (l : List ℕ) where
     unfolding isLeaf
     may-leaf v = may-told (closes ws n (v + 1))
 
-    -- ---- by searches
+    -- ---- calls by searches
     module _ (s : Searches) (fwd-may : (i : ℕ) (r : ℤ) → May n l (s .fwd i r)) (bwd-may : (i : ℕ) (r : ℤ) → May n l (s .bwd i r)) where
       pub may-parent : (v : ℕ) → May n l (parent ws n s v)
       unfolding parent

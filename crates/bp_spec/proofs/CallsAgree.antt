@@ -1,6 +1,9 @@
--- Over nodes as built each call's answer is the definition's, and what is refused is a handle that is none.
---   fwd-equal, bwd-equal, node-equal, handle-equal, ancestor-equal: each kind of call; equal: each call
---   defined-may: what a definition may answer; only-five: so it refuses by 5 alone
+-- Theorem: on a buffer that passes refusals 1 to 4 and is as built, every call promises exactly its definition.
+--   fwd-equal, bwd-equal: the two searches
+--   node-equal: a call on one handle, over nodes
+--   handle-equal: a call on one handle, without nodes
+--   ancestor-equal: `is_ancestor`, which takes two handles
+--   equal: every call
 -- Assumes nothing.
 use mathlib.Core.Path.{_≡_, refl, sym}
 use mathlib.Core.List.{List, [], _∷_, List·Memᴰ·head, List·Memᴰ·eq-of-singleton}

@@ -1,5 +1,6 @@
--- A definition answers a position of the row or nothing, and refuses by 5 alone.
---   defined-may: each call; only-five: the one refusal
+-- A call by definition answers a value in its bound, nothing, or refusal 5.
+--   defined-may: the values and the refusal of every call
+--   only-five: a call by definition that refuses, refuses by 5
 -- Assumes nothing.
 use mathlib.Core.Path.{_≡_, refl, sym}
 use mathlib.Core.List.{List, [], _∷_, List·Memᴰ·head, List·Memᴰ·eq-of-singleton}

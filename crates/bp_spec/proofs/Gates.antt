@@ -1,6 +1,10 @@
--- From the outcome of the tests and the answer that is found then to what a call that searches nothing promises.
---   then-then: the tests of three in a row; then-passed, handle-opens, handle-inside: what an open gate tells
---   bare-facts, bare-refused, bare-passed: a call that searches nothing
+-- From the result of the tests to the promise of a call that needs no search.
+--   then-passed: two gates in a row pass only if both pass
+--   then-then: of three gates in a row it does not matter which two are grouped
+--   handle-opens: a position that passes the test of a handle is an open bit of the row
+--   handle-inside: such a position is below n
+--   bare-facts: what the tests of a call without a search establish
+--   bare-refused, bare-passed: the promise of such a call if a test refuses, and if all pass
 -- Assumes nothing.
 use mathlib.Core.Path.{_≡_, refl}
 use mathlib.Core.Bool.{Bool, true, false, cond}
@@ -22,7 +26,7 @@ use Rattle.row.proofs.Bools.{and-left}
 use Rattle.row.proofs.Gates.{row-fits}
 use Rattle.bp_spec.specs.RowCalls.{handleAnswer}
 
--- ---- open gates
+-- ---- gates that pass
 pub then-passed : (g h : Gate) → andThen g h ≡ Pass → (g ≡ Pass) × (h ≡ Pass)
 then-passed Pass h e = (refl, e)
 then-passed (Refuse k) h e = let z : _≡_ {A = ℕ} 0 1 = cc in absurd (omega arith)
@@ -44,7 +48,7 @@ module _ (ws : List ℕ) (n v : ℕ) where
   unfolding opens
   handle-inside e = ltb-true v n (and-left (ltb v n) (eqb (bitAt ws v) 1) (handle-opens e))
 
--- ---- a call on a handle that searches nothing
+-- ---- a call on a handle that needs no search
 pub bare-facts : (w n : ℕ) (ws : List ℕ) (v : ℕ) → andThen (rowGate w n) (handleGate ws n v) ≡ Pass → (n ≤ 64 * w) × (v < n)
 bare-facts w n ws v g = let e = then-passed (rowGate w n) (handleGate ws n v) g in (row-fits w n (e .0) .1, handle-inside ws n v (e .1))
 

@@ -1,7 +1,10 @@
--- From the outcome of the tests and the answer that is found then to what a call on a node promises, for any call.
---   said: what a search is, by the case of its answer
---   passed-fine, passed-handle: what is passed; gates-refused, gates-passed: a call by searches, whatever else it tests
---   nodeGate, node-refused, node-passed: a call on one handle
+-- From the result of the tests and the answer found after them to the promise of a call on an outline node, for any call.
+--   said: the answer of a search, once the case of its result is known
+--   passed-fine: the bounds that refusals 1 to 4 establish
+--   passed-handle: the remaining tests pass too
+--   gates-refused, gates-passed: the promise of a call by searches with any further tests h, refused and answered
+--   nodeGate: the tests of a call on one handle
+--   node-refused, node-passed: the promise of a call on one handle, refused and answered
 -- Assumes nothing.
 use mathlib.Core.Path.{_≡_, sym, ap, _∙_}
 use mathlib.Core.List.{List}
@@ -25,7 +28,7 @@ use Rattle.bp_spec.proofs.SearchesAgree.{call-defined}
 pub said : {f g : Found} {x : Answer} → paperFound f ≡ x → f ≡ g → x ≡ paperFound g
 said e h = sym e ∙ ap paperFound h
 
--- ---- a call by searches: refusals 1 to 4, then those of h
+-- ---- a call by searches: refusals 1 to 4, then the tests of h
 module _ (w n t B : ℕ) (h : Gate) (g : andThen (nodesGate w n t B) h ≡ Pass) where
   pub passed-fine : Fine w n t B
   passed-fine = gate-fine w n t B (then-passed (nodesGate w n t B) h g .0)
@@ -49,7 +52,7 @@ module _ (ws : List ℕ) (n : ℕ) (s : List ℤ) (B : ℕ) where
 
   -- ---- on one handle
   module _ (v : ℕ) where
-    -- refusals 1 to 5
+    -- Refusals 1 to 5.
     abbrev pub nodeGate : Gate
     nodeGate = andThen gate (handleGate ws n v)
 

@@ -1,6 +1,7 @@
--- Beyond 2^32 bits every call refuses.
---   IsRefusal: the answer is a refusal; through-refuses: an answer behind a gate that does not pass
---   many-refused: each call
+-- Every call with n above 2^32 answers a refusal.
+--   IsRefusal: the answer is a refusal
+--   through-refuses: an answer behind a gate that does not pass is a refusal
+--   many-refused: every call
 -- Assumes nothing.
 use mathlib.Core.Path.{_≡_, refl}
 use mathlib.Core.List.{List}
@@ -8,6 +9,7 @@ use Prim.Native.Nat.{ℕ, _<_}
 use native.Mathlib.Omega.{arith}
 use lib.IntN.{ℤ}
 use lib.ListN.{length}
+use Rattle.row.specs.Limits.{maxBits}
 use Rattle.row.specs.declared.gate.Gate.{Gate}
 use Rattle.row.specs.declared.gate.Gate.the-variants.{Pass, Refuse}
 use Rattle.row.specs.Answer.{Answer, at, nothing, refused}
@@ -34,7 +36,7 @@ through-refuses : (g : Gate) (a : Answer) → (g ≡ Pass → ⊥) → IsRefusal
 through-refuses Pass a f = absurd (f refl)
 through-refuses (Refuse k) a f = tt
 
-module _ (ws : List ℕ) (n : ℕ) (s : List ℤ) (B : ℕ) (many : 4294967296 < n) where
+module _ (ws : List ℕ) (n : ℕ) (s : List ℤ) (B : ℕ) (many : maxBits < n) where
   row-stops : rowGate (length ws) n ≡ Pass → ⊥
   row-stops g = let f = row-fits (length ws) n g .0 in omega arith
 

@@ -1,9 +1,14 @@
--- Where level_rightmost starts. Over nodes as built the root's numbers are those of the whole row, so that n + total - 1 is 2*ones - 1.
---   start-none, start-misfit, start-root: the start over any nodes, one law a case
---   sum-fits, start-fits: n + total - 1 is an i64; row-below, row-cast, row-in, row-past: that number as a position
---   E-ones: the excess is twice the opens, less the bits
---   root-is: the root's numbers; root-fits: they are in range, so that the root is never refused; root-total: its total by the opens
---   row-start: a start from n on finds nothing, no more than one that is left out; rightmost-right: the theorem
+-- Where `level_rightmost` starts. The root of nodes as built is the summary of the whole row, so n + total - 1 equals 2*ones - 1.
+--   start-none, start-misfit, start-root: the start over any nodes, one law per case
+--   sum-fits, start-fits: n + total and n + total - 1 are in the range of i64
+--   row-below, row-cast, row-in, row-past: the number n + total - 1 as a position: below 0, converted to unsigned, below n, from n on
+--   E-ones: the excess is twice the number of open bits minus the number of bits
+--   root-there: a row with bits has a root
+--   root-is: the root is the summary of the whole row
+--   root-fits: the entries of the root are in range, so the root gives no refusal 8
+--   root-total: n + total - 1 of the root equals 2*ones - 1
+--   row-start: a start from n on gives the same answer as no start, because no search from there finds a position
+--   rightmost-right: the theorem that both starts give the same answers
 -- Assumes nothing.
 use mathlib.Core.Path.{_≡_, refl, sym, ap, _∙_}
 use mathlib.Core.Bool.{Bool, true, false, cond}
@@ -19,6 +24,7 @@ use mir.Syntax.{w64}
 use mir.Val.{Fits, SFits, toZ, ofZ}
 use mir.Facts.{toZ-pos}
 use mir.ValLaws.{toZ-ofZ}
+use Rattle.row.specs.Limits.{maxBits}
 use Rattle.ints.specs.Sides.{size}
 use Rattle.ints.proofs.Linear.{plus, diff, plus-size, minus-size}
 use Rattle.ints.proofs.Shapes.{zsum}
@@ -77,15 +83,15 @@ abs-size : (z : ℤ) → natAbs z ≡ size z
 abs-size (pos i) = omega arith
 abs-size (negsuc i) = omega arith
 
--- ---- n + t - 1 as the machine has it
-module _ (n : ℕ) (t : ℤ) (short : n ≤ 4294967296) (small : size t ≤ 4294967296) where
+-- ---- n + t - 1 in machine arithmetic
+module _ (n : ℕ) (t : ℤ) (short : n ≤ maxBits) (small : size t ≤ maxBits) where
   abbrev sum : ℤ
   sum = toZ w64 n +ℤ toZ w64 (ofZ w64 t)
 
   abbrev start : ℤ
   start = toZ w64 (ofZ w64 sum) -ℤ pos 1
 
-  -- it is the number itself
+  -- The machine sum equals the sum of the integers.
   sum-is : sum ≡ pos n +ℤ t
   sum-is = rw (toZ-pos w64 {n = n} (omega arith), toZ-ofZ w64 t (omega zsum))
 
@@ -116,7 +122,7 @@ module _ (n : ℕ) (t : ℤ) (short : n ≤ 4294967296) (small : size t ≤ 4294
     pub row-past : n ≤ natAbs (toZ w64 (ofZ w64 start)) → nothing ≡ inRow n (pos n +ℤ t -ℤ pos 1)
     row-past l = rw (sym read) (outside n (toZ w64 (ofZ w64 start)) e l)
 
--- ---- the excess by the opens
+-- ---- the excess by the number of open bits
 bit-sum : (x : ℕ) (z : ℤ) (o k : ℕ) → x < 2 → z +ℤ pos k ≡ pos (2 * o) → (z +ℤ sign x) +ℤ pos (suc k) ≡ pos (2 * (o + x))
 unfolding sign
 bit-sum zero z o k h q = omega (zsum, plus z (negsuc 0))
@@ -129,14 +135,14 @@ E-ones ws (suc k) = bit-sum (bitAt ws k) (E ws k) (ones ws k) k (digit-lt _ _) (
 
 -- ---- the root of nodes as built
 
--- a row with bits has a root
+-- A row with bits has a root.
 pub root-there : (n B : ℕ) → 0 < B → 0 < n → 0 < count n B
 root-there n B pB some = elim (decLt 0 (leaves n B)) [
   | yes y ↦ omega (arith, count-is n B some)
   | no z ↦ absurd (omega (arith, leaves-out n B pB 0 (omega arith)))
 ]
 
-module _ (ws : List ℕ) (n : ℕ) (s : List ℤ) (B : ℕ) (pB : 0 < B) (short : n ≤ 4294967296) (built : AsBuilt ws n s B) where
+module _ (ws : List ℕ) (n : ℕ) (s : List ℤ) (B : ℕ) (pB : 0 < B) (short : n ≤ maxBits) (built : AsBuilt ws n s B) where
   module _ (some : 0 < n) where
     root-place : Place (top n B) (top n B) 0
     root-place = record { d = 0; sum = omega arith; lo = omega arith; hi = omega arith }
@@ -175,7 +181,7 @@ module _ (ws : List ℕ) (n : ℕ) (s : List ℤ) (B : ℕ) (pB : 0 < B) (short 
     unfolding rootStart
     start-is = rw (ne-eqb n 0 (λ q. omega arith), root-fits, root-total)
 
--- ---- the two starts lead to the same, since nothing is found from n on
+-- ---- the two starts give the same answers, because no search from n on finds a position
 row-start : (n o : ℕ) (g : ℕ → Answer) → ((x : ℕ) → n ≤ x → g x ≡ nothing)
     → onward (inRow n (pos (2 * o) -ℤ pos 1)) g ≡ onward (cond (eqb o 0) nothing (at (2 * o - 1))) g
 row-start n zero g h = refl
@@ -191,8 +197,8 @@ no-ones : (ws : List ℕ) (n : ℕ) → n ≡ 0 → ones ws n ≡ 0
 unfolding ones
 no-ones ws n z = rw z
 
-module _ (ws : List ℕ) (n : ℕ) (s : List ℤ) (B : ℕ) (pB : 0 < B) (short : n ≤ 4294967296) (built : AsBuilt ws n s B) where
-  -- what level_rightmost does from its start on
+module _ (ws : List ℕ) (n : ℕ) (s : List ℤ) (B : ℕ) (pB : 0 < B) (short : n ≤ maxBits) (built : AsBuilt ws n s B) where
+  -- The steps of `level_rightmost` after its start.
   abbrev onFrom : ℕ → ℕ → Answer
   onFrom k x = onward (bwd ws n x (pos k)) (openOf (defined ws n))
 

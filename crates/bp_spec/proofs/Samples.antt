@@ -1,11 +1,14 @@
--- Every call on small rows, computed: the definitions give the answers that a reader finds by hand.
---   on-T: the calls on row T, `(()(()))`; on-empty: the ends of level 0 on the empty row
---   foreign-root: level_rightmost over a root that is out of range; too-deep: for a level above n it does not examine the root
+-- Every call on small rows, by computation. The definitions give the answers that a reader finds by hand.
+--   on-T: the calls on row T, `(()(()))`
+--   on-empty: the first and the last outline node of level 0 on the empty row
+--   foreign-root: over a root with an entry out of range, `level_rightmost` gives refusal 8
+--   too-deep: for a level above n the same call answers nothing, because it does not examine the root
 -- Assumes nothing.
 use mathlib.Core.Path.{_≡_, refl}
 use mathlib.Core.List.{List, [], _∷_, map}
-use Prim.Native.Nat.{ℕ}
+use Prim.Native.Nat.{_+_, ℕ}
 use lib.IntN.{ℤ, pos, negℤ}
+use Rattle.row.specs.Limits.{maxBits}
 use Rattle.ints.specs.Order.{eqZ}
 use Rattle.row.specs.Answer.{Answer, at, nothing, refused}
 use Rattle.row.specs.Excess.{sign, excess}
@@ -29,7 +32,7 @@ use Rattle.bp_spec.specs.Questions.{promised, definition}
 abbrev T : List ℕ
 T = 27 ∷ []
 
--- a question and its answer
+-- A question and its answer.
 abbrev Sample : Type 0
 Sample = Question × Answer
 
@@ -72,7 +75,7 @@ on-empty = refl
 
 -- ---- over a root whose total is 2^32 + 1
 abbrev foreign : List ℤ
-foreign = pos 4294967297 ∷ pos 0 ∷ pos 0 ∷ pos 0 ∷ pos 0 ∷ pos 0 ∷ []
+foreign = pos (maxBits + 1) ∷ pos 0 ∷ pos 0 ∷ pos 0 ∷ pos 0 ∷ pos 0 ∷ []
 
 pub foreign-root : promised T 8 foreign 8 (LevelRightmost 0) ≡ refused 8
 unfolding rightmostAnswer levelRightmost rootStart fits inRange nodeAt rowGate blockGate roomGate nodesGate leaves exponent power innerFor layoutOf

@@ -1,7 +1,9 @@
--- What a search answers, refused or not, and that over nodes as built it is the definition.
---   when-refused: a refusal; when-forward, when-backward: the walk's answer
---   outward-past, outward-short, outward-open, outward-close: how far enclose looks, past the row, past the words, at an open bit and at a
---   closing one; outward-fits: it is an i64
+-- From the result of the tests to the promise of a search, and how far `enclose` searches.
+--   when-refused: the promise if a test refuses
+--   when-forward, when-backward: the promise if all tests pass; over nodes as built the walk answers the definition
+--   outward-past, outward-short: from position n on, and past the words, `enclose` searches for -2
+--   outward-open, outward-close: at an open bit it searches for -1, at a close bit for -2
+--   outward-fits: the searched difference is in the range of i64
 -- Assumes nothing.
 use mathlib.Core.Path.{_≡_, _∙_}
 use mathlib.Core.Bool.{Bool, true, false, cond, and-false}
@@ -30,7 +32,7 @@ use Rattle.walk_spec.proofs.Right.{walk-forward, walk-backward}
 use Rattle.bp_spec.specs.SearchCalls.{searchAnswer, WhereBuilt, outward}
 
 module _ (ws : List ℕ) (n : ℕ) (s : List ℤ) (B i : ℕ) (r : ℤ) where
-  -- what a search promises of its answer a, the definition's being d
+  -- The promise of a search: a is the answer by the walk, and over nodes as built it equals the definition d.
   abbrev pub SearchPromise : Way → Answer → Answer → Type 0
   SearchPromise w d a = (a ≡ searchAnswer w ws n s B i r) × WhereBuilt ws n s B a d
 
@@ -54,7 +56,7 @@ module _ (ws : List ℕ) (n : ℕ) (s : List ℤ) (B i : ℕ) (r : ℤ) where
       let p = f .eight in
       (walked backward a g e, λ o b. e ∙ walk-backward ws n s B (omega arith) (f .short) b i r)
 
--- a word that is not there is read as 0
+-- A word past the end of the slice has only zero digits.
 zero-digit : (k : ℕ) → digit 0 k ≡ 0
 zero-digit k = rw (zero-div (2 ^ k))
 

@@ -1,5 +1,6 @@
--- Over nodes as built the walk's searches are document 01's, and so is every call made of them.
---   searches-defined: the two searches at once; call-defined: any call
+-- Over nodes as built the two searches by the walk equal the two searches by definition. So every call made of them agrees too.
+--   searches-defined: both searches at once
+--   call-defined: any call made of the two searches
 -- Assumes nothing.
 use mathlib.Core.Path.{_≡_, ap, fun-ext}
 use mathlib.Core.List.{List}

@@ -1,6 +1,9 @@
--- The walk over any nodes answers a position of the row, nothing, or refusal 8; the definition is never refused.
---   Inside, scan-inside: a scan of c bits from a on finds one of them
---   walk-may: the walk; fwd-may, bwd-may: the definitions; root-may, last-may: where level_rightmost starts
+-- The walk over any nodes answers a position below n, nothing, or refusal 8. A search by definition gives no refusal.
+--   Inside: a position that a scan hit is below a bound
+--   scan-inside: a scan hits only positions of its stretch
+--   walk-may: the walk
+--   fwd-may, bwd-may: the two searches by definition
+--   root-may, last-may: where `level_rightmost` starts, by the root and by definition
 -- Assumes nothing.
 use mathlib.Core.Path.{_≡_, refl}
 use mathlib.Core.Bool.{Bool, true, false, cond}
@@ -27,7 +30,7 @@ use Rattle.bp_spec.specs.LevelEnds.{ones, lastStart, inRow, rootStart}
 use Rattle.bp_spec.specs.Ranges.{May}
 
 -- ---- a scan
--- a position that was found is below t
+-- A position that the scan hit is below t.
 abbrev Inside : ℕ → Scanned → Type 0
 Inside t (Hit j) = j < t
 Inside t (Left q) = Unit
@@ -92,7 +95,7 @@ walk-may w ws n s B i r = go (endsAtOnce w n i) refl (far n r)
     go false e true = tt
     go false e false = started w ws n s B b x (start-inside w ws n B i r e)
 
--- ---- the definitions
+-- ---- the searches by definition
 module _ (ws : List ℕ) (n i : ℕ) (r : ℤ) (l : List ℕ) where
   pub fwd-may : May n l (fwd ws n i r)
   fwd-may = go (fwd ws n i r) (fwd-is ws n i r)

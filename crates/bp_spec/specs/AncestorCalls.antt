@@ -1,5 +1,4 @@
--- The calls on nodes in document 01's words, over any two searches, but for the last child and the siblings; and what is_ancestor
--- answers, which takes two handles.
+-- SCOPE, The calls: `parent` and `is_ancestor`, each as a rule over any two searches; also what `is_ancestor` answers, refusals included.
 -- Assumes nothing.
 use mathlib.Core.Bool.{_&&_}
 use mathlib.Core.List.{List}
@@ -16,22 +15,24 @@ use Rattle.bp_spec.specs.SearchCalls.{outward}
 use Rattle.bp_spec.specs.SearchPair.{Searches, walked, defined, onward, closeOf}
 
 module _ (ws : List ℕ) (n : ℕ) (s : Searches) where
-  -- parent is enclose: bwd(i, -1) at an open bit, bwd(i, -2) at a close bit
+  -- `parent(v)` is `enclose(v)`: bwd(v, -1) at an open bit of the row, bwd(v, -2) at any other position.
   unfoldable pub parent : ℕ → Answer
   parent i = s .bwd i (outward ws n i)
 
-  -- is_ancestor(a, d): nothing if a has no close c; else whether a <= d and d < c
+  -- `is_ancestor(a, d)` is nothing if a has no close; with c = `close(a)` it is yes if a <= d < c, else no.
   unfoldable pub isAncestor : ℕ → ℕ → Answer
   isAncestor a d = onward (closeOf s a) (λ c. told (leb a d && ltb d c))
 
--- ---- on two handles
+-- ---- a call on two handles
 
--- both handles of is_ancestor are tested before it searches
+-- `is_ancestor` tests both handles, a first, before it searches.
 abbrev pub bothGate : List ℕ → ℕ → ℕ → ℕ → Gate
 bothGate ws n a d = andThen (handleGate ws n a) (handleGate ws n d)
 
+-- What `is_ancestor` answers over any nodes: refusals 1 to 5, then the call by the walk.
 unfoldable pub ancestorAnswer : List ℕ → ℕ → List ℤ → ℕ → ℕ → ℕ → Answer
 ancestorAnswer ws n s B a d = through (andThen (nodesGate (length ws) n (length s) B) (bothGate ws n a d)) (isAncestor ws n (walked ws n s B) a d)
 
+-- `is_ancestor` by definition: refusal 5, then the call by the searches by definition.
 unfoldable pub ancestorDefined : List ℕ → ℕ → ℕ → ℕ → Answer
 ancestorDefined ws n a d = through (bothGate ws n a d) (isAncestor ws n (defined ws n) a d)

@@ -1,5 +1,5 @@
--- The public calls as questions: what each promises to answer, over any words, nodes and block size, and what document 01 defines.
--- The two tests, the build and the text reader stand by themselves in the demands.
+-- SCOPE, The calls: what each public call promises over any words, nodes and block size, and what its definition says.
+-- A question is a call with its own arguments. The two tests, the build and the text reader are no questions; the crate demands names them.
 -- Assumes nothing.
 use mathlib.Core.List.{List}
 use Prim.Native.Nat.{ℕ}
@@ -22,7 +22,7 @@ use Rattle.bp_spec.specs.LevelCalls as level
 use Rattle.bp_spec.specs.LevelEnds as ends
 use Rattle.bp_spec.specs.LevelEnds.{levelAnswer, rightmostAnswer, rightmostDefined}
 
--- what the call promises to answer for the words ws with n bits, the node numbers s and the block size B
+-- The answer that the call promises for the words ws with n bits, the node buffer s and the block size B.
 abbrev pub promised : List ℕ → ℕ → List ℤ → ℕ → Question → Answer
 promised ws n s B (FwdSearch i r) = fwdAnswer ws n s B i r
 promised ws n s B (BwdSearch i r) = bwdAnswer ws n s B i r
@@ -43,7 +43,7 @@ promised ws n s B (LevelPrev v) = nodeAnswer level.levelPrev ws n s B v
 promised ws n s B (LevelLeftmost k) = levelAnswer ends.levelLeftmost ws n s B k
 promised ws n s B (LevelRightmost k) = rightmostAnswer ws n s B k
 
--- what document 01 defines on a row of n bits; a call on a handle refuses what is none
+-- The call by definition on a row of n bits; a call on something that is not a handle is refusal 5.
 abbrev pub definition : List ℕ → ℕ → Question → Answer
 definition ws n (FwdSearch i r) = search.fwd ws n i r
 definition ws n (BwdSearch i r) = search.bwd ws n i r

@@ -1,4 +1,4 @@
--- What the searches answer: the refusals in their order, then the walk; and what that is over nodes as built.
+-- SCOPE, The two searches and How a search walks: what a search answers over any nodes, and how far `enclose` searches.
 -- Assumes nothing.
 use mathlib.Core.Path.{_≡_}
 use mathlib.Core.Bool.{cond}
@@ -15,20 +15,22 @@ use Rattle.mmt_layout.specs.Layout.{nodesGate}
 use Rattle.mmt_node.specs.Nodes.{AsBuilt}
 use Rattle.walk_spec.specs.Walk.{walk}
 
--- a search that way: refusals 1, 2, 3, 4, then the walk, over any words, nodes, position and r
+-- A search in direction w: refusals 1, 2, 3 and 4, then the walk, over any words, nodes, position and r.
 unfoldable pub searchAnswer : Way → List ℕ → ℕ → List ℤ → ℕ → ℕ → ℤ → Answer
 searchAnswer w ws n s B i r = through (nodesGate (length ws) n (length s) B) (walk w ws n s B i r .answer)
 
+-- What `fwd_search` answers.
 abbrev pub fwdAnswer : List ℕ → ℕ → List ℤ → ℕ → ℕ → ℤ → Answer
 fwdAnswer = searchAnswer forward
 
+-- What `bwd_search` answers.
 abbrev pub bwdAnswer : List ℕ → ℕ → List ℤ → ℕ → ℕ → ℤ → Answer
 bwdAnswer = searchAnswer backward
 
--- where nothing is refused and the nodes are as built for the row, the n and the B of the call, the answer is the definition's
+-- If refusals 1 to 4 pass and the nodes are as built for this row, n and B, the answer a equals the definition d.
 abbrev pub WhereBuilt : List ℕ → ℕ → List ℤ → ℕ → Answer → Answer → Type 0
 WhereBuilt ws n s B a d = nodesGate (length ws) n (length s) B ≡ Pass → AsBuilt ws n s B → a ≡ d
 
--- enclose looks -1 back from an open bit, -2 from any other position
+-- `enclose` searches for -1 at an open bit of the row and for -2 at any other position.
 unfoldable pub outward : List ℕ → ℕ → ℕ → ℤ
 outward ws n i = cond (opens ws n i) (negsuc 0) (negsuc 1)

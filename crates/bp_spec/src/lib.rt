@@ -1,7 +1,8 @@
-// Specification of every call, twice: by the walk over any node buffer, and by the definitions of SCOPE, The calls.
+// Specifies every call twice: by the walk over any node buffer, and by the definitions of SCOPE, The calls.
 //
-// specs/ holds the definitions, proofs/ the theorem that the two agree on a node buffer as built, and the laws by which the code of the calls
-// meets its contracts. The only code is the list of the calls. So the crates of the calls do not depend on each other.
+// The folder specs has the definitions. The folder proofs has the theorem that the two specifications agree on a node buffer as built,
+// and the laws that the proofs of the calls cite. The only code is the list of the calls. The crates bp_search, bp_family and bp_level share
+// these definitions, so none of them depends on another.
 mod question;
 
 pub use question::Question;

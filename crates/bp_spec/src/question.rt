@@ -1,9 +1,9 @@
-// The list of all calls: a question names a call and its own arguments.
+// The list of all calls. A question is one call with its own arguments.
 //
-// The specification of every call, the demands and the C functions over bytes share this one list.
+// The specification of the calls, the demands and the C functions over bytes share this list.
 
-// The arguments beside the row and its node buffer: a position and an excess, a position, a handle, two handles, a handle and a level, or a
-// level.
+// A call with its arguments, apart from the row, the node buffer and the block size. A usize is a position or a handle, an i64 is a searched
+// difference, a u64 is a level.
 pub enum Question {
     FwdSearch(usize, i64),
     BwdSearch(usize, i64),

@@ -1,6 +1,8 @@
--- What the reader over bytes answers and leaves.
---   count-passed, refusal-keeps: what an answer says of the tests
---   row-refused, row-passed: what is left by a refusal, and where the tests are passed; too-long, short: the limit
+-- What the text reader over bytes answers and writes.
+--   count-passed: an answer that is a bit count means that the tests passed
+--   refusal-keeps: an answer that is a refusal means that the slice is unchanged
+--   row-refused, row-passed: the bytes of the row after a refusal, and after success
+--   too-long, short: the test of the limit of 4,096 bytes
 -- Assumes nothing.
 use mathlib.Core.Path.{_≡_, refl, sym, ap, _∙_}
 use mathlib.Core.List.{List}
@@ -9,6 +11,7 @@ use native.Mathlib.Omega.{arith}
 use borrow.Author.Tests.{le-leb, lt-leb}
 use lib.ListN.{length, take, drop}
 use lib.Seq.{take-at}
+use Rattle.row.specs.Limits.{maxShortBits}
 use Rattle.row.specs.declared.refusal.Refusal.the-variants.{TooManyBits}
 use Rattle.row.specs.declared.gate.Gate.{Gate}
 use Rattle.row.specs.declared.gate.Gate.the-variants.{Pass, Refuse}
@@ -19,7 +22,7 @@ use Rattle.text.proofs.Text.{words-length, words-passed}
 use Rattle.wire.specs.Bytes.{wordsOver}
 use Rattle.c_dispatch.specs.Reader.{shortGate, leftRow}
 
--- one more than the value; 0 where there is none
+-- The value of an answer plus 1, and 0 for nothing and refusals.
 abbrev valued : Answer → ℕ
 valued (at x) = suc x
 valued nothing = 0
@@ -48,10 +51,10 @@ module _ (text : List ℕ) where
   row-passed ws row z c g e f =
       let q = ap (λ x. take x z) f ∙ ap (take (wordsFor (length text))) e ∙ front ws g in ap (λ x. wordsOver x row) q ∙ rw g
 
-  pub too-long : (w : ℕ) → 4096 < length text → shortGate text w ≡ Refuse TooManyBits
+  pub too-long : (w : ℕ) → maxShortBits < length text → shortGate text w ≡ Refuse TooManyBits
   unfolding shortGate
-  too-long w h = rw (lt-leb (length text) 4096 h)
+  too-long w h = rw (lt-leb (length text) maxShortBits h)
 
-  pub short : (w : ℕ) → length text ≤ 4096 → shortGate text w ≡ textGate text w
+  pub short : (w : ℕ) → length text ≤ maxShortBits → shortGate text w ≡ textGate text w
   unfolding shortGate
-  short w h = rw (le-leb (length text) 4096 h)
+  short w h = rw (le-leb (length text) maxShortBits h)

@@ -1,12 +1,16 @@
--- Every answer of a call fits an i64: a position is below n, and n above 2^32 is refused.
---   may-small, refusal-small: a value below a bound that is at most 2^32, and a refusal
---   answer-small: each call; read-small: the text reader
---   small-as, crossed: an answer passed to `wire`, and the number that comes back; answered: as the answer to the question
+-- Every answer of a call fits into an i64: a position is below n, and an n above 2^32 is refused.
+--   may-small: a value below a bound of at most 2^32 + 1
+--   refusal-small: a refusal
+--   answer-small: the answer of every call
+--   read-small: the answer of the text reader
+--   small-as: an answer that equals a small one is small
+--   crossed: the i64 that `wire` returns for an answer is the number of every equal answer
+--   answered: the same for the answer to a question
 -- Assumes nothing.
 use mathlib.Core.Path.{_≡_, refl, ap, sym, _∙_}
 use mathlib.Core.Bool.{Bool, true, false}
 use mathlib.Core.List.{List}
-use Prim.Native.Nat.{ℕ, _≤_}
+use Prim.Native.Nat.{_+_, ℕ, _≤_}
 use native.Mathlib.Omega.{arith}
 use borrow.Author.Tests.{leb-true, leb-false}
 use lib.Dec.{leb}
@@ -15,6 +19,7 @@ use lib.ListN.{length}
 use mir.Syntax.{w64}
 use mir.Val.{SFits, toZ, ofZ}
 use mir.ValLaws.{toZ-ofZ}
+use Rattle.row.specs.Limits.{maxBits}
 use Rattle.row.specs.declared.gate.Gate.{Gate}
 use Rattle.row.specs.declared.gate.Gate.the-variants.{Pass, Refuse}
 use Rattle.row.specs.Answer.{Answer, at, nothing, refused}
@@ -29,7 +34,7 @@ use Rattle.bp_spec.proofs.AnswerRange.{answers-may}
 use Rattle.bp_spec.proofs.ManyBits.{IsRefusal, many-refused}
 use Rattle.wire.specs.Answer.{wireOf, Small}
 
-may-small : (b : ℕ) (l : List ℕ) (a : Answer) → b ≤ 4294967297 → May b l a → Small a
+may-small : (b : ℕ) (l : List ℕ) (a : Answer) → b ≤ (maxBits + 1) → May b l a → Small a
 may-small b l (at x) h m = omega arith
 may-small b l nothing h m = Prim.tt {0}
 may-small b l (refused k) h m = Prim.tt {0}
@@ -40,7 +45,7 @@ refusal-small nothing r = absurd r
 refusal-small (refused k) r = Prim.tt {0}
 
 -- ---- the calls
-below-small : (n : ℕ) (q : Question) → n ≤ 4294967296 → kind n q .below ≤ 4294967297
+below-small : (n : ℕ) (q : Question) → n ≤ maxBits → kind n q .below ≤ (maxBits + 1)
 below-small n (FwdSearch i r) h = omega arith
 below-small n (BwdSearch i r) h = omega arith
 below-small n (Close i) h = omega arith
@@ -61,13 +66,13 @@ below-small n (LevelLeftmost k) h = omega arith
 below-small n (LevelRightmost k) h = omega arith
 
 pub answer-small : (ws : List ℕ) (n : ℕ) (s : List ℤ) (B : ℕ) (q : Question) → Small (promised ws n s B q)
-answer-small ws n s B q = go (leb n 4294967296) refl
+answer-small ws n s B q = go (leb n maxBits) refl
   where
-    go : (t : Bool) → leb n 4294967296 ≡ t → Small (promised ws n s B q)
+    go : (t : Bool) → leb n maxBits ≡ t → Small (promised ws n s B q)
     go true e =
         may-small (kind n q .below) (refusals (kind n q .nodes) (kind n q .handles)) (promised ws n s B q)
-        (below-small n q (leb-true n 4294967296 e)) (answers-may ws n s B q)
-    go false e = refusal-small (promised ws n s B q) (many-refused ws n s B (leb-false n 4294967296 e) q)
+        (below-small n q (leb-true n maxBits e)) (answers-may ws n s B q)
+    go false e = refusal-small (promised ws n s B q) (many-refused ws n s B (leb-false n maxBits e) q)
 
 -- ---- the text reader
 pub read-small : (text ws : List ℕ) → Small (readAnswer text ws)
@@ -77,7 +82,7 @@ read-small text ws = go (textGate text (length ws)) refl
     go Pass e = let f = text-fits text (length ws) e in omega arith
     go (Refuse k) e = Prim.tt {0}
 
--- ---- to `wire` and back
+-- ---- from an answer to its number on the wire
 pub small-as : {a b : Answer} → a ≡ b → Small b → Small a
 small-as e h = rw e h
 

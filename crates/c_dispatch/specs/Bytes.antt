@@ -1,5 +1,5 @@
--- What is answered over the bytes of a row and of its nodes, as one signed number.
--- Here f gives the answer to a question over words, a bit count, node numbers and a block size, as `promised` and `asked` do.
+-- SCOPE, The C functions: the answer over the bytes of a row and of its node buffer, as one signed number.
+-- Here f gives the answer to a question over words, a bit count, node numbers and a block size; `promised` and `requested` are such functions.
 -- Assumes nothing.
 use mathlib.Core.List.{List, []}
 use Prim.Native.Nat.{ℕ}
@@ -9,10 +9,10 @@ use Rattle.wire.specs.Answer.{wireOf}
 use Rattle.wire.specs.Limit.{wireBits}
 use Rattle.wire.specs.Decoded.{rowWords, nodeNumbers}
 
--- a call that takes nodes
+-- Over bytes a call with nodes answers as over the decoded words and node numbers.
 abbrev pub byteAnswer : {Q : Type 0} → (List ℕ → ℕ → List ℤ → ℕ → Q → Answer) → List ℕ → ℕ → List ℕ → ℕ → Q → ℤ
 byteAnswer f row bits nodes B q = wireOf (f (rowWords row) (wireBits bits) (nodeNumbers nodes) B q)
 
--- a call that takes none: it is answered as over no numbers
+-- Over bytes a call without nodes answers as over the decoded words and an empty node buffer.
 abbrev pub rowAnswer : {Q : Type 0} → (List ℕ → ℕ → List ℤ → ℕ → Q → Answer) → List ℕ → ℕ → Q → ℤ
 rowAnswer f row bits q = wireOf (f (rowWords row) (wireBits bits) [] 0 q)

@@ -1,4 +1,4 @@
--- The reader of text over the bytes of a row, for texts of up to 4,096 bytes.
+-- SCOPE, The C functions: the text reader over the bytes of a row, for texts of at most 4,096 bytes.
 -- Assumes nothing.
 use mathlib.Core.Bool.{cond}
 use mathlib.Core.List.{List}
@@ -6,6 +6,7 @@ use Prim.Native.Nat.{ℕ}
 use lib.Dec.{leb}
 use lib.IntN.{ℤ}
 use lib.ListN.{length}
+use Rattle.row.specs.Limits.{maxShortBits}
 use Rattle.row.specs.declared.refusal.Refusal.the-variants.{TooManyBits}
 use Rattle.row.specs.declared.gate.Gate.{Gate}
 use Rattle.row.specs.declared.gate.Gate.the-variants.{Refuse}
@@ -16,18 +17,18 @@ use Rattle.wire.specs.Answer.{wireOf}
 use Rattle.wire.specs.Limit.{wordRoom, fit}
 use Rattle.wire.specs.Bytes.{wordsOver}
 
--- refusals 2, 6, then 3, for a text and the w words that there is room for
+-- Refusals 2, 6 and 3, in this order, for a text and room for w words.
 unfoldable pub shortGate : List ℕ → ℕ → Gate
-shortGate text w = cond (leb (length text) 4096) (textGate text w) (Refuse TooManyBits)
+shortGate text w = cond (leb (length text) maxShortBits) (textGate text w) (Refuse TooManyBits)
 
--- the bytes of a row after the tests g: the words that the text's bits need over their front, what stands past them stays; a refusal leaves all
+-- The bytes of a row after the tests g: the words that the bits need at the front, the rest unchanged; after a refusal all unchanged.
 abbrev pub leftRow : Gate → List ℕ → List ℕ → List ℕ
 leftRow g text row = kept g (wordsOver (wordsOf text (wordsFor (length text))) row) row
 
--- what is answered: the bit count
+-- The number that the reader answers: the bit count, or a refusal.
 abbrev pub readWire : List ℕ → List ℕ → ℤ
 readWire text row = wireOf (through (shortGate text (fit (length row) wordRoom)) (at (length text)))
 
--- the bytes of the row after it
+-- The bytes of the row after the reader.
 abbrev pub readBytes : List ℕ → List ℕ → List ℕ
 readBytes text row = leftRow (shortGate text (fit (length row) wordRoom)) text row

@@ -1,4 +1,4 @@
--- The answer to a request over words and node numbers.
+-- SCOPE, The C functions: the answer to a request over words and node numbers.
 -- Assumes nothing.
 use mathlib.Core.List.{List}
 use Prim.Native.Nat.{ℕ}
@@ -10,7 +10,7 @@ use Rattle.bp_spec.specs.Questions.{promised}
 use Rattle.c_dispatch.specs.declared.request.Request.{Request}
 use Rattle.c_dispatch.specs.declared.request.Request.the-variants.{Call, OneTree, AsBuilt}
 
--- a call answers as it promises; so do the two tests
+-- A call answers what it promises, and so do the one-tree test and the as-built test.
 abbrev pub requested : List ℕ → ℕ → List ℤ → ℕ → Request → Answer
 requested ws n s B (Call q) = promised ws n s B q
 requested ws n s B OneTree = oneTreeAnswer ws n

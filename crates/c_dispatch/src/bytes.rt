@@ -5,7 +5,7 @@ ghost use Rattle.c_dispatch.specs.Bytes.{byteAnswer, rowAnswer};
 use crate::request::Request;
 use crate::request::answer;
 
-// Decodes the row and its nodes into arrays, as much as fits, and asks. A longer row reaches the call as one that it refuses by 2.
+// Decodes the row and the node buffer into arrays, as much as fits, and answers the request. A row of more than 4,096 bits is refusal 2.
 pub fn over_bytes(row: &[u8], bits: u64, nodes: &[u8], block: u64, request: Request) -> i64
     ensures { λ a. ⌜ a ≡ byteAnswer requested (now (row .entry)) bits (now (nodes .entry)) block request ⌝ }
 {
@@ -22,7 +22,7 @@ pub fn over_bytes(row: &[u8], bits: u64, nodes: &[u8], block: u64, request: Requ
     )
 }
 
-// The same for a call that takes no nodes.
+// Answers a request that needs no node buffer.
 pub fn over_row(row: &[u8], bits: u64, request: Request) -> i64
     ensures { λ a. ⌜ a ≡ rowAnswer requested (now (row .entry)) bits request ⌝ }
 {

@@ -1,6 +1,6 @@
-// The calls over byte slices, for rows of up to 4,096 bits: one decoding and one dispatch, shared by all exported functions over bytes.
+// The calls over byte slices, for rows of up to 4,096 bits. All exported functions over bytes share this decoding and this dispatch.
 //
-// A request names the call or test and its arguments. No public function here has a `requires`: the calls test their arguments.
+// A request names a call or a test, with its arguments. No public function here has a `requires`: the calls test their arguments.
 mod bytes;
 mod reader;
 mod request;

@@ -1,4 +1,4 @@
-// The reader of parenthesis text over byte slices. It tests 2, 6, then 3, and writes nothing before.
+// The reader of parenthesis text over byte slices. It tests refusals 2, 6 and 3, in this order, before it writes.
 ghost use mathlib.Core.Path.{_≡_};
 ghost use Prim.Native.Nat.{_*_, _≤_};
 ghost use lib.ListN.{length};
@@ -10,7 +10,7 @@ ghost use Rattle.c_dispatch.specs.Reader.{leftRow, readWire, readBytes};
 use row::Read;
 use row::Refusal;
 
-// Reads into words, then writes those that the bits need over the front of row.
+// Reads the text into `words`, then writes the words that the bits need to the front of `row`.
 fn read_through(text: &[u8], words: &mut [u64], row: &mut [u8]) -> i64
     requires { ⌜ 8 * length (now words) ≤ length (now row) ⌝ }
     ensures { λ a. ⌜ a ≡ wireOf (through (textGate (now (text .entry)) (length (now (words .entry)))) (at (length (now (text .entry))))) ⌝ }
@@ -25,12 +25,13 @@ fn read_through(text: &[u8], words: &mut [u64], row: &mut [u8]) -> i64
     }
 }
 
-// The bits of a text: their count. Fills the words that they need; bytes past those stay, and a refusal leaves all.
+// Reads a text of at most 4,096 bytes into `row` and returns the bit count. Bytes after the needed words are unchanged; a refusal leaves all
+// bytes unchanged.
 pub fn read_text(text: &[u8], row: &mut [u8]) -> i64
     ensures { λ a. ⌜ a ≡ readWire (now (text .entry)) (now (row .entry)) ⌝ }
     ensures { λ a. ⌜ now (row .exit) ≡ readBytes (now (text .entry)) (now (row .entry)) ⌝ }
 {
-    if 4096 < text.len() {
+    if row::MAX_SHORT_BITS < text.len() {
         return wire::refused(Refusal::TooManyBits);
     }
     let mut words = [0u64; wire::WORDS];

@@ -1,10 +1,11 @@
-// What can be asked over bytes: one of the calls, or one of the two tests. Every call is made in one place.
+// A request is one of the calls, or one of the two tests. All calls of this crate are made here.
 ghost use mathlib.Core.Path.{_≡_};
 ghost use Rattle.wire.specs.Answer.{wireOf};
 ghost use Rattle.bp_spec.specs.Questions.{promised};
 ghost use Rattle.c_dispatch.specs.Requests.{requested};
 use bp_spec::Question;
 
+// A call with its arguments, the one-tree test, or the as-built test.
 pub enum Request {
     Call(Question),
     OneTree,

@@ -1,7 +1,8 @@
--- What a listing answers and leaves, as one i64 and as bytes.
---   count-low: a count is small
---   bytes-refused, bytes-passed: the bytes that are left, where the making refuses and where answers are written
---   room-enough: the room for the answers of 4,096 bits; count-cut, bytes-cut: a room cut to that gives the same
+-- What a listing answers as one i64, and what it writes as bytes.
+--   count-low: the count is at most 2^32 + 2
+--   bytes-refused, bytes-passed: the bytes after a refused constructor, and after the answers are written
+--   room-enough: the array has room for all answers of a row of 4,096 bits
+--   count-cut, bytes-cut: a room cut to the size of the array gives the same count and the same bytes
 -- Assumes nothing.
 use mathlib.Core.Path.{_≡_, refl, sym, ap, _∙_}
 use mathlib.Core.Bool.{Bool}
@@ -13,36 +14,37 @@ use borrow.Author.Tests.{le-leb, lt-leb}
 use lib.IntN.{ℤ}
 use lib.ListN.{length, take, drop, length-append, length-map}
 use lib.Seq.{take-at}
+use Rattle.row.specs.Limits.{maxBits, maxShortBits}
 use Rattle.row.specs.Answer.{Answer, at, nothing, refused}
 use Rattle.wire.specs.Answer.{wireOf}
-use Rattle.wire.specs.Limit.{wireBits}
+use Rattle.wire.specs.Limit.{wireBits, answerRoom}
 use Rattle.wire.specs.Bytes.{numbersOver}
 use Rattle.list_slice.specs.Seek.{sought}
 use Rattle.list_slice.specs.WholeListing.{overlaid, unlessRefused, answersOf, countOf, leftOf}
 use Rattle.list_slice.proofs.AnswerCount.{count-small, room-cut}
 use Rattle.c_listings.specs.Listings.{listedBytes}
 
--- a bit count that crosses has room for all its answers, or is refused
-room-enough : (bits : ℕ) → wireBits bits ≤ 4294967296 → wireBits bits + 2 ≤ 4098
+-- For the bit count of a call over bytes the array has room for all answers, or the call is refused.
+room-enough : (bits : ℕ) → wireBits bits ≤ maxBits → wireBits bits + 2 ≤ answerRoom
 unfolding wireBits
 room-enough bits =
-    elim (decLt 4096 bits) [
-      | yes l ↦ rw (lt-leb bits 4096 l) (λ h. absurd (omega arith))
-      | no l ↦ (let b : bits ≤ 4096 = omega arith in rw (le-leb bits 4096 b) (λ h. omega arith))
+    elim (decLt maxShortBits bits) [
+      | yes l ↦ rw (lt-leb bits maxShortBits l) (λ h. absurd (omega arith))
+      | no l ↦ (let b : bits ≤ maxShortBits = omega arith in rw (le-leb bits maxShortBits b) (λ h. omega arith))
     ]
 
--- the value of an answer that has one
+-- The value of an answer, and 0 for nothing and refusals.
 abbrev value : Answer → ℕ
 value (at x) = x
 value nothing = 0
 value (refused k) = 0
 
 module _ (rising : Bool) (ws : List ℕ) (n : ℕ) (s : List ℤ) (B v : ℕ) where
-  pub count-low : (c m : ℕ) → at c ≡ countOf rising ws n s B v m → c < 4294967299
+  pub count-low : (c m : ℕ) → at c ≡ countOf rising ws n s B v m → c < (maxBits + 3)
   count-low c m e = rw (sym e) at (count-small rising ws n s B v m)
 
   module _ (m : ℕ) (out : List ℕ) where
-    -- the answers
+    -- The answers of the listing.
     abbrev l : List Answer
     l = answersOf rising ws n s B v m
 
@@ -57,7 +59,7 @@ module _ (rising : Bool) (ws : List ℕ) (n : ℕ) (s : List ℤ) (B v : ℕ) wh
         go (refused j) e = refl
 
   module _ (c : ℕ) (xs ys : List ℤ) (out : List ℕ) where
-    -- as many as are counted stand in front
+    -- The first c numbers are the answers.
     front : (zs : List ℤ) → c ≡ length zs → ys ≡ overlaid zs xs → (c ≤ length ys) × (take c ys ≡ zs)
     front zs e f = (
       rw f (omega (arith, length-append zs (drop (length zs) xs))),
@@ -82,12 +84,12 @@ module _ (rising : Bool) (ws : List ℕ) (n : ℕ) (s : List ℤ) (B v : ℕ) wh
         go nothing e f = let p = front zs (counts e) f in (p .0, ap (λ x. numbersOver x out) (p .1))
         go (refused k) e f = let z : _≡_ {A = ℕ} 0 1 = cc in absurd (omega arith)
 
--- over a bit count that crosses, with a room that is cut to 4,098
-module _ (rising : Bool) (ws : List ℕ) (bits : ℕ) (s : List ℤ) (B v c n t : ℕ) (e : n ≡ wireBits bits) (f : t ≡ min c 4098) where
+-- For the bit count of a call over bytes, with the room cut to 4,098 answers.
+module _ (rising : Bool) (ws : List ℕ) (bits : ℕ) (s : List ℤ) (B v c n t : ℕ) (e : n ≡ wireBits bits) (f : t ≡ min c answerRoom) where
   pub count-cut : countOf rising ws n s B v t ≡ countOf rising ws (wireBits bits) s B v c
   unfolding countOf
-  count-cut = rw (e, f) (room-cut rising ws (wireBits bits) s B v (λ l. at (length l)) refused c 4098 (room-enough bits))
+  count-cut = rw (e, f) (room-cut rising ws (wireBits bits) s B v (λ l. at (length l)) refused c answerRoom (room-enough bits))
 
   pub bytes-cut : (out : List ℕ) → listedBytes rising ws n s B v t out ≡ listedBytes rising ws (wireBits bits) s B v c out
   unfolding listedBytes
-  bytes-cut out = rw (e, f) (room-cut rising ws (wireBits bits) s B v (λ l. numbersOver (map wireOf l) out) (λ _. out) c 4098 (room-enough bits))
+  bytes-cut out = rw (e, f) (room-cut rising ws (wireBits bits) s B v (λ l. numbersOver (map wireOf l) out) (λ _. out) c answerRoom (room-enough bits))

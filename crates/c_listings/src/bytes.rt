@@ -1,7 +1,8 @@
-// Listings over byte slices, for rows of up to 4,096 bits: the answer of each step as eight bytes, up to and with the first
-// nothing or until out has no room for eight more; what stood past them stays. A refused making leaves all bytes.
+// Listings over byte slices, for rows of up to 4,096 bits.
 //
-// The answers are made in an array, as many as there is room for. More than the array holds no listing of 4,096 bits gives.
+// Each answer is written as eight bytes, up to and with the first `nothing`, or until fewer than eight bytes of `out` are left. Bytes after
+// the answers are unchanged. A refused constructor leaves all bytes unchanged. The answers are first collected in an array; no listing of a
+// 4,096-bit row has more answers than the array holds.
 ghost use mathlib.Core.Path.{_≡_};
 ghost use Prim.Native.Nat.{_*_, _/_, _≤_};
 ghost use lib.ListN.{length};
@@ -11,7 +12,7 @@ ghost use Rattle.list_slice.specs.WholeListing.{countOf};
 ghost use Rattle.c_listings.specs.Listings.{listedBytes, listWire, listLeft};
 use list_slice::Listed;
 
-// Lists in answers, then writes what was answered over the front of out.
+// Lists into `answers`, then writes the answers to the front of `out`.
 fn put_listing(
     words: &[u64],
     n: usize,
@@ -39,7 +40,7 @@ fn put_listing(
     }
 }
 
-// A listing over decoded words and numbers.
+// Lists over decoded words and node numbers, and writes the answers to `out`.
 fn list_decoded(
     words: &[u64],
     bits: u64,
@@ -75,7 +76,7 @@ fn list_decoded(
     )
 }
 
-// The children of a node, either way: how many answers are written.
+// Writes the children of `node` to `out`, rising or falling. Returns the number of answers written, or the refusal.
 pub fn to_bytes(
     row: &[u8],
     bits: u64,

@@ -1,7 +1,7 @@
-// A listing, made and stepped to its end, and what it writes: numbers to a slice of numbers, eight bytes each to a slice of bytes.
-// The answer is the count of what is written, or the refusal of the making, as one i64.
+// Whole listings as one i64: a listing is constructed and stepped to its end, and its answers are written to a slice.
 //
-// It stands below the exported functions, so that each of those is one call and is checked without what the writing rests on.
+// A slice of numbers gets one number per answer, a slice of bytes eight bytes. The result is the number of answers written, or the refusal of
+// the constructor. The exported functions are one call each; this crate is separate so that they are checked without these proofs.
 mod bytes;
 mod numbers;
 

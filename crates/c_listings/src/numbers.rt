@@ -1,12 +1,14 @@
-// Listings over words and numbers, for rows of any size, without a copy: the answer of each step, up to and with the first
-// nothing or until out is full; what stood past them stays. A refused making leaves all numbers.
+// Listings over words and numbers, for rows of up to 2^32 bits, without a copy.
+//
+// The answer of each step is written, up to and with the first `nothing`, or until `out` is full. Entries after the answers are unchanged.
+// A refused constructor leaves all entries unchanged.
 ghost use mathlib.Core.Path.{_≡_};
 ghost use lib.ListN.{length};
 ghost use Rattle.wire.specs.Answer.{wireOf};
 ghost use Rattle.list_slice.specs.WholeListing.{countOf, leftOf};
 use list_slice::Listed;
 
-// The children of a node, either way: how many answers are written.
+// Writes the children of `node` to `out`, rising or falling. Returns the number of answers written, or the refusal.
 pub fn to_numbers(
     words: &[u64],
     bits: u64,

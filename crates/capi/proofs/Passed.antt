@@ -1,5 +1,7 @@
--- What a build over decoded words answers and leaves.
---   built-passed, built-refused: what a build says of its tests; bytes-passed, bytes-refused: what it leaves
+-- What a build over decoded words answers and writes.
+--   built-passed: an answer that is success means that the tests passed
+--   built-refused: an answer that is a refusal means that the bytes are unchanged
+--   bytes-refused, bytes-passed: the bytes after a refusal, and after success
 -- Assumes nothing.
 use mathlib.Core.Path.{_≡_, refl, sym, ap, _∙_}
 use mathlib.Core.List.{List}
@@ -19,7 +21,7 @@ use Rattle.mmt_node.proofs.Written.{written-length}
 use Rattle.wire.specs.Bytes.{numbersOver}
 use Rattle.capi.specs.Build.{leftBytes}
 
--- 1 for a value
+-- 1 for a value, 0 for nothing and refusals.
 abbrev valued : Answer → ℕ
 valued (at x) = 1
 valued nothing = 0
@@ -42,7 +44,7 @@ module _ (ws : List ℕ) (n B t : ℕ) (bytes : List ℕ) where
   unfolding leftBytes
   bytes-written g = rw g
 
-  -- the front of the numbers that were built is what document 01 gives
+  -- The front of the built buffer has exactly the entries of SCOPE, The node buffer.
   front : (s : List ℤ) → nodesGate (length ws) n (length s) B ≡ Pass → take (width * count n B) (builtNodes ws n s B) ≡ written ws n B
   unfolding builtNodes
   front s g = rw g (take-at (written ws n B) (drop (width * count n B) s) (width * count n B) (written-length ws n B))

@@ -1,7 +1,7 @@
-// What the vault's host calls: build, close, enclose and is_ancestor over byte slices and numbers, for rows of up to 4,096 bits.
+// The four functions that the host of the vault calls: build, close, enclose and is_ancestor, over byte slices, for rows of up to 4,096 bits.
 //
-// What is lent is decoded into arrays, as much as fits: more than that no row of 4,096 bits needs. A call over the arrays then
-// tests and answers; a longer row reaches it as one that it refuses by 2. Nothing but a build that is done writes.
+// The passed bytes are decoded into arrays, as much as fits; no row of 4,096 bits needs more. A call over the arrays then tests and answers.
+// A row of more than 4,096 bits is refusal 2. Only a successful build writes.
 ghost use mathlib.Core.Path.{_≡_};
 ghost use Rattle.bp_spec.specs.declared.question.Question.the-variants.{Close, Enclose, IsAncestor};
 ghost use Rattle.bp_spec.specs.Questions.{promised};
@@ -12,7 +12,7 @@ use c_dispatch::Request;
 
 mod call;
 
-// Writes the nodes of the row's bits; bytes past them stay. A refusal leaves all bytes.
+// Builds the min-max nodes of the row and writes them to `nodes`. Bytes after the nodes are unchanged; a refusal leaves all bytes unchanged.
 #[no_mangle]
 pub extern "C" fn bp_build(row: &[u8], bits: u64, nodes: &mut [u8], block: u64) -> i64
     ensures { λ r. ⌜ r ≡ buildWire (now (row .entry)) bits (now (nodes .entry)) block ⌝ }
@@ -31,7 +31,7 @@ pub extern "C" fn bp_build(row: &[u8], bits: u64, nodes: &mut [u8], block: u64) 
     )
 }
 
-// close(at), for any position.
+// Answers `close(at)` for any position.
 #[no_mangle]
 pub extern "C" fn bp_close(row: &[u8], bits: u64, nodes: &[u8], block: u64, at: u64) -> i64
     ensures { λ r. ⌜ r ≡ byteAnswer promised (now (row .entry)) bits (now (nodes .entry)) block (Close at) ⌝ }
@@ -45,7 +45,7 @@ pub extern "C" fn bp_close(row: &[u8], bits: u64, nodes: &[u8], block: u64, at: 
     )
 }
 
-// enclose(at), for any position.
+// Answers `enclose(at)` for any position.
 #[no_mangle]
 pub extern "C" fn bp_enclose(row: &[u8], bits: u64, nodes: &[u8], block: u64, at: u64) -> i64
     ensures { λ r. ⌜ r ≡ byteAnswer promised (now (row .entry)) bits (now (nodes .entry)) block (Enclose at) ⌝ }
@@ -59,7 +59,7 @@ pub extern "C" fn bp_enclose(row: &[u8], bits: u64, nodes: &[u8], block: u64, at
     )
 }
 
-// is_ancestor(ancestor, descendant): 1 or 0, nothing where the ancestor has no close.
+// Answers `is_ancestor(ancestor, descendant)`: 1 or 0, or nothing if the ancestor has no close.
 #[no_mangle]
 pub extern "C" fn bp_is_ancestor(
     row: &[u8],

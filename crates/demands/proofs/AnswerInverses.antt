@@ -1,7 +1,8 @@
--- Answers that are the same on paper are the same.
---   found-of, told-of, built-of, read-of, gate-of, listed-of, listing-of: the way back from paper, one law for each kind of answer
---   determined: with a way back, two answers of one meaning agree
---   one-found, one-told, one-built, one-read, one-listed, one-made, one-step: so each kind of promise leaves one answer
+-- Two answers of the code with the same specification answer are equal, because the map to specification answers has an inverse.
+--   refusalOf, refusal-of: the refusal with a number
+--   found-of, told-of, built-of, read-of, gate-of, listed-of, listing-of: the inverse of each map, one law per answer type
+--   determined: a map with an inverse has at most one value with the image d
+--   one-found, one-told, one-built, one-read, one-listed, one-made, one-step: so at most one answer of each type satisfies a promise
 -- Assumes nothing.
 use mathlib.Core.Path.{_≡_, refl, sym, ap, _∙_}
 use mathlib.Core.Bool.{cond}
@@ -32,8 +33,8 @@ use Rattle.list_slice.specs.declared.write.Listed.the-variants.{Count, Refused 
 use Rattle.list_slice.specs.WholeListing.{paperListed}
 use Rattle.demands.specs.Uniqueness.{One}
 
--- ---- the way back
--- the refusal with that number
+-- ---- the inverses
+-- The refusal with number m.
 refusalOf : ℕ → Refusal
 refusalOf m =
     cond (eqb m 1) BlockSize (cond (eqb m 2) TooManyBits (cond (eqb m 3) TooFewWords (cond (eqb m 4) TooFewNodes
@@ -113,7 +114,7 @@ listingOf l = record { words = l .words; n = l .n; nodes = l .nodes; block = l .
 listing-of : (c : Children) → listingOf (paperListing c) ≡ c
 listing-of c = λ i. record { words = c .words; n = c .n; nodes = c .nodes; block = c .block; rising = c .rising; held = found-of (c .held) i }
 
--- ---- one answer
+-- ---- at most one answer
 determined : {A P : Type 0} (paper : A → P) (back : P → A) → ((a : A) → back (paper a) ≡ a) → (d : P) → One paper d
 determined paper back h d a b e f = sym (h a) ∙ ap back (e ∙ sym f) ∙ h b
 

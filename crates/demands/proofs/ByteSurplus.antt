@@ -1,5 +1,6 @@
--- What crosses as bytes is answered as all words and numbers of the bytes would be: those that are not decoded never matter.
---   cut-at, few: what the cut leaves; bits-same, rows: the row; nodes-same, both: the nodes
+-- A call over bytes answers as over all words and node numbers of the bytes. Those that are not decoded never matter.
+--   cut-at: a list that is cut at m has the same entries below m; few: a bit count that passes test 2 is at most 4,096
+--   bits-same, rows: the row; nodes-same, both: the node buffer
 --   crossed-same: every call
 -- Assumes nothing.
 use mathlib.Core.Path.{_≡_, sym, ap, _∙_}
@@ -10,6 +11,7 @@ use native.Mathlib.Decide.{decLt}
 use borrow.Author.Tests.{le-leb, lt-leb}
 use lib.IntN.{ℤ, pos}
 use lib.ListN.{length, getD}
+use Rattle.row.specs.Limits.{maxBits, maxShortBits}
 use Rattle.row.specs.Bits.{digit}
 use Rattle.row.proofs.Gates.{row-fits}
 use Rattle.row.proofs.Surplus.{Same}
@@ -26,26 +28,26 @@ use Rattle.wire.specs.Decoded.{rowWords, nodeNumbers}
 use Rattle.wire.proofs.Runs.{length-made, made-at}
 use Rattle.demands.proofs.ByteRoom.{gate-all, row-all, nodes-fit}
 
--- a list of at most m, and the whole, up to m
+-- A list that is cut at m has the same entries below m.
 cut-at : {A : Type 0} (g : ℕ → A) (d : A) (a m j : ℕ) → j < m → getD (tabulate g 0 (min a m)) j d ≡ getD (tabulate g 0 a) j d
 cut-at g d a m j h = elim (decLt a m) [
   | yes l ↦ (let e : min a m ≡ a = omega arith in rw e)
   | no l ↦ made-at g d 0 (min a m) j (omega arith) ∙ sym (made-at g d 0 a j (omega arith))
 ]
 
--- a row that is not refused by 2 has at most 4,096 bits
-few : (bits : ℕ) → wireBits bits ≤ 4294967296 → wireBits bits ≤ 4096
+-- A row that is not refused by 2 has at most 4,096 bits.
+few : (bits : ℕ) → wireBits bits ≤ maxBits → wireBits bits ≤ maxShortBits
 unfolding wireBits
-few bits = elim (decLt 4096 bits) [
-  | yes l ↦ rw (lt-leb bits 4096 l) (λ h. absurd (omega arith))
-  | no l ↦ let h : bits ≤ 4096 = omega arith in rw (le-leb bits 4096 h) (λ z. h)
+few bits = elim (decLt maxShortBits bits) [
+  | yes l ↦ rw (lt-leb bits maxShortBits l) (λ h. absurd (omega arith))
+  | no l ↦ let h : bits ≤ maxShortBits = omega arith in rw (le-leb bits maxShortBits h) (λ z. h)
 ]
 
 module _ (row : List ℕ) (bits : ℕ) where
   abbrev all : List ℕ
   all = wordsIn row (length row / 8)
 
-  bits-same : wireBits bits ≤ 4096 → Same (rowWords row) all (wireBits bits)
+  bits-same : wireBits bits ≤ maxShortBits → Same (rowWords row) all (wireBits bits)
   bits-same h k l = ap (λ (w : ℕ). digit w (k % 64)) (cut-at (λ j. wordAt row (8 * j)) 0 (length row / 8) wordRoom (k / 64) (omega arith))
 
   rows : RowAlike (rowWords row) all (wireBits bits)
@@ -60,7 +62,7 @@ module _ (row : List ℕ) (bits : ℕ) where
     abbrev numbers : List ℤ
     numbers = numbersIn nodes (length nodes / 8)
 
-    nodes-same : wireBits bits ≤ 4096 → 8 ≤ B → Alike (nodeNumbers nodes) numbers (count (wireBits bits) B)
+    nodes-same : wireBits bits ≤ maxShortBits → 8 ≤ B → Alike (nodeNumbers nodes) numbers (count (wireBits bits) B)
     unfolding nodeAt
     nodes-same h b k l =
         let f = nodes-fit (wireBits bits) B b h in

@@ -1,6 +1,7 @@
--- Calls whose every step goes to the next number that passes a test name all of them, rising, and then nothing; those that go to the last
--- one before name the same in reverse.
---   rises, falls: by induction on how many numbers are left; those-end: one number more at the end of a list
+-- Calls that go from each number to the next one that passes a test name all such numbers, rising, and then nothing. Calls that go to the
+-- last one before name the same numbers in reverse.
+--   onward, rises: forward, by induction on the numbers left
+--   those-end: the list of one number more; back, falls: backward, by induction on the numbers left
 -- Assumes nothing.
 use mathlib.Core.Path.{_≡_, refl, ap, _∙_}
 use mathlib.Core.Bool.{Bool, true, false}
@@ -14,7 +15,7 @@ use Rattle.demands.specs.Lists.{Names, those}
 use Rattle.demands.proofs.Neighbours.{next, prev, prev-yes, prev-no}
 
 module _ (p : ℕ → Bool) (ask : Question → Answer) (step : ℕ → Question) where
-  -- ---- forward: m numbers are left, from a on
+  -- ---- forward: the m numbers from a on are left
   onward : (n : ℕ) → ((v : ℕ) → p v ≡ true → ask (step v) ≡ next p n (suc v))
       → (m a : ℕ) → m ≡ n - a → (start : Question) → ask start ≡ least p m a → Names ask step start (those p m a)
   unfolding those least

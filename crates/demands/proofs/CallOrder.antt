@@ -1,6 +1,7 @@
--- In which order each call tests what it is lent.
---   free-order, node-order, bare-order: calls over nodes; those on a handle besides; those on a handle without nodes
---   order-of: each call
+-- The order in which each call makes its tests.
+--   free-order, search-order: calls over nodes without a handle, and the two searches
+--   node-order: calls over nodes with a handle; bare-order: calls with a handle and without nodes
+--   order-of: every call
 -- Assumes nothing.
 use mathlib.Core.List.{List, [], _∷_, List·Memᴰ·not-nil}
 use Prim.Native.Nat.{ℕ}

@@ -1,4 +1,4 @@
--- Cases a to l hold, by computation.
+-- Cases a to l of SCOPE, Small rows, hold by computation.
 --   cases: the claim
 -- Assumes nothing.
 use mathlib.Core.Path.{refl}

@@ -1,7 +1,9 @@
--- In one tree the child calls by definition go to the next and to the last child of a handle v that closes at c.
---   Kid, kid, is-kid, no-kid, between: what `childOf` says
---   first-child, next-sibling: v + 1, and the position after w's close: they open, or the close of v is there
---   last-child, previous-sibling: the open of a close at depth one more is the last handle of that depth (`last-kid`), and v + 1 is one
+-- In a row that is one tree the child calls by definition go to the next child, or to the last one before, of a handle v with the close c.
+--   Kid, kid, is-kid, no-kid, between: what `childOf` means
+--   low, v-up, leaf, deeper, first-child: position v + 1 is a child of v or the close of v
+--   inner, under, still, ended, after-close, next-sibling: the position after the close of a child is a child of v or the close of v
+--   last-kid: `open` from a position with excess E(v) + 2 answers the last child before it
+--   c-deep, close-before, clash, apart, last-child, previous-sibling: such a position is c - 1, or w - 1 for a child w
 -- Assumes nothing.
 use mathlib.Core.Path.{_≡_, sym, ap, _∙_}
 use mathlib.Core.Logic.{_⊎_, inl, inr}
@@ -29,7 +31,7 @@ use Rattle.demands.proofs.Neighbours.{next, prev, next-is, next-none, p
 use Rattle.demands.proofs.Depths.{Up, Down, turn, opens-up, stands, at-depth}
 use Rattle.demands.proofs.Closes.{Closed, closing, open-deep}
 
--- x is a child of v, which closes at c
+-- x is a child of v, and c is the close of v.
 pub record Kid (ws : List ℕ) (n v c x : ℕ) : Type 0 where
   pub right : v < x
   pub inner : x < c
@@ -37,7 +39,7 @@ pub record Kid (ws : List ℕ) (n v c x : ℕ) : Type 0 where
   pub deep : E ws x ≡ E ws v +ℤ pos 1
 
 module _ (ws : List ℕ) (n : ℕ) (t : OneTree ws n) (v c : ℕ) (o : Handle ws n v) (d : Closed ws n v c) where
-  -- between v and its close only the depth is left to test
+  -- Between v and its close, the children are exactly the handles of depth E(v) + 1.
   between : (x : ℕ) → v < x → x < c → childOf ws n v x ≡ atDepth ws n (E ws v +ℤ pos 1) x
   unfolding childOf
   between x a b = rw (d .is, lt-ltb v x a, lt-ltb x c b, childOf)
@@ -58,14 +60,14 @@ module _ (ws : List ℕ) (n : ℕ) (t : OneTree ws n) (v c : ℕ) (o : Handle ws
   no-kid : (x : ℕ) → (Kid ws n v c x → ⊥) → childOf ws n v x ≡ false
   no-kid x f = not-yes (childOf ws n v x) (λ h. f (kid x h))
 
-  -- ---- the first bit under v
+  -- ---- the bit after v
   low : suc v < n
   low = omega arith
 
   v-up : E ws (suc v) ≡ E ws v +ℤ pos 1
   v-up = opens-up ws n v o .step
 
-  -- the close comes at once, or a child does
+  -- Position v + 1 is the close of v, or it is a child.
   leaf : Down ws n (suc v) → c ≡ suc v
   leaf w = elim (decLt (suc v) c) [
     | yes y ↦ (let z = d .over (suc (suc v)) (omega arith) y in absurd (omega (zsum, v-up)))
@@ -93,7 +95,7 @@ module _ (ws : List ℕ) (n : ℕ) (t : OneTree ws n) (v c : ℕ) (o : Handle ws
           rw (add-one v, w .open-is, firstChild)
           (sym (next-none (childOf ws n v) n 0 (λ x a b. no-kid x (λ k. let q = leaf w in omega arith))))
 
-  -- ---- the child after w, which closes at b
+  -- ---- the child after w, where b is the close of w
   module _ (w b : ℕ) (k : Kid ws n v c w) (g : Closed ws n w b) where
     inner : b < c
     inner =
@@ -106,11 +108,11 @@ module _ (ws : List ℕ) (n : ℕ) (t : OneTree ws n) (v c : ℕ) (o : Handle ws
           ]
         ]
 
-    -- nothing of that depth while w is open
+    -- No child of v lies between w and its close.
     under : (x : ℕ) → w < x → x ≤ b → Kid ws n v c x → ⊥
     under x a l y = let m = g .over x a l in omega zsum
 
-    -- after b another child begins, or v closes
+    -- Position b + 1 is another child, or it is the close of v.
     still : Up ws n (suc b) → suc b < c
     still u =
         let f = d .back in
@@ -145,7 +147,7 @@ module _ (ws : List ℕ) (n : ℕ) (t : OneTree ws n) (v c : ℕ) (o : Handle ws
       ap (λ (a : Answer). onward a (λ e. handleAt ws n (e + 1))) (g .is) ∙ rw (add-one b) (after-close w b k g (turn ws n (suc b) (omega arith)))
 
   -- ---- backward
-  -- from below y, where depth and child agree from the first child on
+  -- `open` from y finds the last handle of depth E(v) + 1 below y. Since v + 1 is a child, this handle is a child too.
   last-kid : (y m : ℕ) → Up ws n (suc v) → suc v < y → y ≤ c → y ≤ m → ((x : ℕ) → y ≤ x → x < m → Kid ws n v c x → ⊥)
       → E ws y ≡ E ws v +ℤ pos 1 +ℤ pos 1 → bwd ws n y (negsuc 0) ≡ prev (childOf ws n v) m
   last-kid y m u a b l f e =
@@ -154,7 +156,7 @@ module _ (ws : List ℕ) (n : ℕ) (t : OneTree ws n) (v c : ℕ) (o : Handle ws
       (λ x p q. between x p (omega arith))
       ∙ sym (prev-skip (childOf ws n v) y m l (λ x p q. no-kid x (f x p q)))
 
-  -- the bit before the close, unless it is v
+  -- The excess before the close of v; and the bit before the close, if it is not v itself.
   c-deep : E ws c ≡ E ws v +ℤ pos 1
   c-deep =
       let r = d .right in
@@ -170,7 +172,7 @@ module _ (ws : List ℕ) (n : ℕ) (t : OneTree ws n) (v c : ℕ) (o : Handle ws
         | inr u ↦ u
       ]
 
-  -- an open and a close do not meet
+  -- No position has an open bit and a close bit.
   clash : (x y : ℕ) → x ≡ y → opens ws n x ≡ true → opens ws n y ≡ false → ⊥
   clash x y q a b = never-true (sym b ∙ ap (opens ws n) (sym q) ∙ a)
 

@@ -1,8 +1,9 @@
--- In one tree every handle closes, and the open before an excess is the last handle of its depth.
---   bwd-prev: a backward search as the last position below its start; open-deep: open, from an excess of k + 1
---   E-zero, nonneg: the excess at the start, and that it is never below 0
---   Closed, closing: the close of a handle, and the excess above the handle's until then
---   root-up: the first bit opens
+-- In a row that is one tree every handle has a close, and `open` from an excess of k + 1 answers the last handle of depth k.
+--   bwd-prev: a backward search is the last position below its start with the searched excess
+--   open-deep: `open` from an excess of k + 1
+--   E-zero, nonneg: the excess is 0 at the start and never negative
+--   Closed, closing: the close of a handle; up to it the excess stays above that of the handle
+--   root-up: the first bit is open
 -- Assumes nothing.
 use mathlib.Core.Path.{_≡_, refl, sym, _∙_}
 use mathlib.Core.Logic.{inl, inr}
@@ -25,7 +26,7 @@ use Rattle.demands.proofs.Neighbours.{prev}
 use Rattle.demands.proofs.Depths.{Up, turn, opens-up, stays, last-deep}
 use Rattle.row.proofs.Tree.{opens-low}
 
--- the handle v closes at c
+-- c is the close of the handle v.
 pub record Closed (ws : List ℕ) (n v c : ℕ) : Type 0 where
   pub is : fwd ws n v (negsuc 0) ≡ at c
   pub right : v < c

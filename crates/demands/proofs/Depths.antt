@@ -1,9 +1,12 @@
--- Handles by their depth, on any row: each bit below n moves the excess by one.
---   Up, Down, turn: a position below n opens and goes up, or closes and goes down; opens-up: one that opens
---   Stands, stands, at-depth, not-depth: what `atDepth` says
---   stays, stayed: an excess above k that does not meet k stays above it, forward and backward
---   first-deep, last-deep: a search for an excess is a search for a handle: from an excess of at most k on, for k + 1 after a position;
---     back from an excess above k, for k before a position. By induction on the positions left, no value being skipped
+-- Handles by their depth, on any row. Each bit below n changes the excess by one, so the excess skips no value.
+--   Up, Down, turn: a position below n has an open bit and the excess rises, or a close bit and the excess falls
+--   opens-up: at an open bit the excess rises
+--   Stands, stands, at-depth, not-depth: what `atDepth` means
+--   strict: an integer that is at least b and not b is greater than b
+--   stays, stayed: an excess above k that does not meet k stays above k, forward and backward
+--   first-deep: after an excess of at most k, the first position with excess k + 1 after its bit is the first handle of depth k
+--   last-deep: before an excess above k, the last position with excess k before its bit is the last handle of depth k
+-- The last two are by induction on the positions left.
 -- Assumes nothing.
 use mathlib.Core.Path.{_≡_, refl, sym, ap, _∙_}
 use mathlib.Core.Logic.{_⊎_, inl, inr}
@@ -40,7 +43,7 @@ pub record Down (ws : List ℕ) (n i : ℕ) : Type 0 where
   pub close-is : closes ws n i ≡ true
   pub step : E ws (suc i) +ℤ pos 1 ≡ E ws i
 
--- a handle of depth k
+-- v is a handle of depth k.
 pub record Stands (ws : List ℕ) (n : ℕ) (k : ℤ) (v : ℕ) : Type 0 where
   pub low : v < n
   pub open-is : opens ws n v ≡ true
@@ -82,7 +85,7 @@ module _ (ws : List ℕ) (n : ℕ) where
   pub not-depth : (k : ℤ) (v : ℕ) → (Stands ws n k v → ⊥) → atDepth ws n k v ≡ false
   not-depth k v f = not-yes (atDepth ws n k v) (λ h. f (stands k v h))
 
-  -- ---- an excess that does not meet k stays on its side
+  -- ---- an excess above k that does not meet k stays above k
   pub stays : (k : ℤ) (a y : ℕ) → a ≤ y → y ≤ n → k <ℤ E ws a → ((x : ℕ) → a ≤ x → x < y → E ws (suc x) ≡ k → ⊥) → k <ℤ E ws y
   stays k a zero l m h f = let w : 0 ≡ a = omega arith in rw w h
   stays k a (suc y) l m h f = go (decLt y a) (stays k a y)
@@ -99,7 +102,7 @@ module _ (ws : List ℕ) (n : ℕ) where
       let r = stayed k c (suc y) t (omega arith) m h (λ x p q. f x (omega arith) q) in
       strict (E ws y) k (elim (turn y (omega arith)) [ inl u ↦ omega zsum | inr d ↦ omega zsum ]) (f y (omega arith) (omega arith))
 
-  -- ---- from an excess of at most k on, the first position with excess k+1 after it is the first handle of depth k
+  -- ---- if E(a) <= k, the first position from a on with excess k + 1 after its bit is the first handle of depth k
   pub first-deep : (k v : ℤ) (c a : ℕ) → v ≡ k +ℤ pos 1 → a + c ≤ n → E ws a ≤ℤ k → least (excessAfter (E ws) v) c a ≡ least (atDepth ws n k) c a
   unfolding least
   first-deep k v zero a w l h = refl
@@ -115,7 +118,7 @@ module _ (ws : List ℕ) (n : ℕ) where
       go (inr d) true q rest = let x = eqZ-true (E ws (suc a)) v q in absurd (omega zsum)
       go (inr d) false q rest = rw (q, not-depth k a (λ s. never-true (sym (d .open-is) ∙ s .open-is)), least) (rest (omega zsum))
 
-  -- back from an excess above k, the last position with excess k before it is the last handle of depth k
+  -- If E(t) > k, the last position below t with excess k before its bit is the last handle of depth k.
   pub last-deep : (k v : ℤ) (t : ℕ) → v ≡ k → t ≤ n → k <ℤ E ws t → greatest (excessBefore (E ws) v) t 0 ≡ prev (atDepth ws n k) t
   unfolding greatest
   last-deep k v zero w l h = refl

@@ -1,6 +1,7 @@
--- The list of the numbers that pass a test holds exactly those, each once, rising.
---   among: a number that passes stands there; Has, among-has: what stands there passes; those-rise: it rises; exact: all three
---   none-those: where none passes it is empty
+-- The list `those` has exactly the numbers that pass a test, each once, in rising order.
+--   among: every number that passes is in the list; Has, among-has: every number in the list passes
+--   those-rise: the list rises; exact: all three facts
+--   none-those: the list is empty if no number passes
 -- Assumes nothing.
 use mathlib.Core.Path.{_≡_, refl, sym, ap, _∙_}
 use mathlib.Core.Bool.{Bool, true, false}
@@ -14,7 +15,7 @@ use Rattle.demands.specs.Lists.{those, Rising, Exactly}
 use Rattle.bp_spec.specs.Ranges.{Among}
 
 module _ (p : ℕ → Bool) where
-  -- x is one of the c numbers from a on, and passes
+  -- x is one of the c numbers from a on, and it passes.
   pub record Has (x c a : ℕ) : Type 0 where
     pub from : a ≤ x
     pub below : x < a + c

@@ -1,17 +1,21 @@
--- Demand 1.
---   tree-may, built-may, build-may, read-may: what the two tests, the build and the text reader may answer
---   keeps, build-leaves, read-leaves: a refusal leaves what was there
+-- Proof of demand 1.
+--   yes-or-no: a test answers 1 or 0
+--   tree-may, built-may, build-may, read-may: the values and refusals that the two tests, the build and the text reader may give
+--   rooms, rooms-may: the numbers of refusals 1 to 4, and the refusals of an answer after these tests
+--   texts: the numbers of the refusals of the text reader
+--   keeps: a gate that refuses keeps the old content; build-leaves, read-leaves: so do a refused build and a refused reading
 --   first: the demand
 -- Assumes nothing.
 use mathlib.Core.Path.{_≡_, refl}
 use mathlib.Core.Bool.{Bool, true, false, cond}
 use mathlib.Core.List.{List, [], _∷_, _++_}
-use Prim.Native.Nat.{ℕ, _*_}
+use Prim.Native.Nat.{_+_, ℕ, _*_}
 use native.Mathlib.Omega.{arith}
 use borrow.Author.Tests.{leb-true}
 use lib.Dec.{leb}
 use lib.IntN.{ℤ}
 use lib.ListN.{length, drop}
+use Rattle.row.specs.Limits.{maxBits}
 use Rattle.row.specs.declared.refusal.Refusal.the-variants.{TooManyBits, NotAParenthesis}
 use Rattle.row.specs.declared.gate.Gate.{Gate}
 use Rattle.row.specs.declared.gate.Gate.the-variants.{Pass, Refuse}
@@ -40,7 +44,7 @@ tree-may ws n =
     may-through (2 ∷ 3 ∷ []) 2 (rowGate (length ws) n) (cond (oneTree ws n) (at 1) (at 0)) (refused-row (2 ∷ 3 ∷ []) (length ws) n one two)
     (λ g. yes-or-no (2 ∷ 3 ∷ []) (oneTree ws n))
 
--- refusals 1 to 4
+-- The numbers of refusals 1 to 4.
 abbrev rooms : List ℕ
 rooms = 1 ∷ 2 ∷ 3 ∷ 4 ∷ []
 
@@ -56,25 +60,25 @@ module _ (ws : List ℕ) (n : ℕ) (s : List ℤ) (B : ℕ) where
   build-may : May 1 rooms (buildAnswer ws n s B)
   build-may = rooms-may 1 (at 0) (omega arith)
 
--- 2, 6, then 3
+-- The refusals of the text reader, in their order: 2, 6, 3.
 abbrev texts : List ℕ
 texts = 2 ∷ 6 ∷ 3 ∷ []
 
-read-may : (text ws : List ℕ) → May 4294967297 texts (readAnswer text ws)
+read-may : (text ws : List ℕ) → May (maxBits + 1) texts (readAnswer text ws)
 unfolding textGate
-read-may text ws = go (leb (length text) 4294967296) refl (allParentheses text)
+read-may text ws = go (leb (length text) maxBits) refl (allParentheses text)
   where
-    go : (t : Bool) → leb (length text) 4294967296 ≡ t → (u : Bool)
-        → May 4294967297 texts
+    go : (t : Bool) → leb (length text) maxBits ≡ t → (u : Bool)
+        → May (maxBits + 1) texts
         (through (cond t (cond u (rowGate (length ws) (length text)) (Refuse NotAParenthesis)) (Refuse TooManyBits)) (at (length text)))
     go true e true =
-        let l = leb-true (length text) 4294967296 e in
-        may-through texts 4294967297 (rowGate (length ws) (length text)) (at (length text))
+        let l = leb-true (length text) maxBits e in
+        may-through texts (maxBits + 1) (rowGate (length ws) (length text)) (at (length text))
         (refused-row texts (length ws) (length text) one three) (λ g. omega arith)
     go true e false = two
     go false e u = one
 
--- a refusal leaves what was there
+-- If the answer after a gate is a refusal, the old content is kept.
 keeps : {A : Type 0} (g : Gate) (x k : ℕ) (new old : A) → through g (at x) ≡ refused k → kept g new old ≡ old
 keeps Pass x k new old e = let z : _≡_ {A = ℕ} 0 1 = cc in absurd (omega arith)
 keeps (Refuse j) x k new old e = refl

@@ -1,7 +1,8 @@
--- The tests before an answer: by which numbers they refuse, and in which order.
---   RefusedBy, refused-then, refused-row, refused-nodes, refused-handle: the numbers of each gate; may-through: of an answer behind a gate
---   block-fine, block-bad: refusal 1; not-handle, handle-of: refusal 5; Refuses, refuses-one, refuses-both: of one handle, or of two
---   nodes-order, row-order: a call's tests in document 01's order; then-passed: a gate with none after it
+-- The order of the tests before an answer. GateRange of bp_spec has the numbers by which each gate refuses.
+--   block-fine, block-bad: test 1; not-handle: test 5
+--   Refuses, refuses-one, refuses-both: a gate that refuses by 5 if a number is no handle, for one handle and for two
+--   nodes-order, row-order: a call with nodes, and one without, makes its tests in the order of SCOPE, Refusals
+--   then-passed: a gate with no other gate after it
 -- Assumes nothing.
 use mathlib.Core.Path.{_≡_, refl, sym}
 use mathlib.Core.Bool.{Bool, true, false, cond, _&&_}
@@ -21,27 +22,27 @@ use Rattle.row.specs.Answer.{Answer, numberOf}
 use Rattle.row.specs.Gates.{wordsFor, rowGate, handleGate, through, andThen}
 use Rattle.row.specs.Tree.{opens, Handle}
 use Rattle.row.proofs.Gates.{row-many, row-few, row-passed}
-use Rattle.mmt_layout.specs.Layout.{width, count, blockGate, roomGate, nodesGate}
+use Rattle.mmt_layout.specs.Layout.{width, count, blockGate, roomGate, nodesGate, maxBlock}
 use Rattle.mmt_layout.proofs.Admitted.{block-passed, room-few, gate-block, gate-row, gate-room, fine-gate}
 use Rattle.bp_spec.specs.AncestorCalls.{bothGate}
 use Rattle.demands.specs.First.{BlockSize, InOrder}
 use Rattle.bp_spec.specs.Ranges.{overNodes, overRow, May, Among}
 use Rattle.row.proofs.Bools.{not-yes}
 
--- ---- in which order
+-- ---- the order of the tests
 block-fine : (B : ℕ) → BlockSize B → blockGate B ≡ Pass
 block-fine B f = sym (block-passed B (λ z. let e = f .eight in omega arith) (f .small) (f .eights))
 
 block-bad : (B : ℕ) → (BlockSize B → ⊥) → blockGate B ≡ Refuse BadBlock
 unfolding blockGate
-block-bad B f = go (ltb 0 B) refl (leb B 65536) refl (eqb (B % 8) 0) refl
+block-bad B f = go (ltb 0 B) refl (leb B maxBlock) refl (eqb (B % 8) 0) refl
   where
-    go : (a : Bool) → ltb 0 B ≡ a → (b : Bool) → leb B 65536 ≡ b → (c : Bool) → eqb (B % 8) 0 ≡ c
+    go : (a : Bool) → ltb 0 B ≡ a → (b : Bool) → leb B maxBlock ≡ b → (c : Bool) → eqb (B % 8) 0 ≡ c
         → cond (a && b && c) Pass (Refuse BadBlock) ≡ Refuse BadBlock
     go true p true q true r =
         let z = ltb-true 0 B p in
         let m = eqb-true (B % 8) 0 r in
-        absurd (f (record { eight = omega arith; eights = m; small = leb-true B 65536 q }))
+        absurd (f (record { eight = omega arith; eights = m; small = leb-true B maxBlock q }))
     go true p true q false r = refl
     go true p false q c r = refl
     go false p b q c r = refl
@@ -50,7 +51,7 @@ pub not-handle : (ws : List ℕ) (n v : ℕ) → (Handle ws n v → ⊥) → han
 unfolding handleGate
 not-handle ws n v f = rw (not-yes (opens ws n v) f)
 
--- the gate h refuses by 5 where one of the handles is none
+-- The gate h refuses by 5 if a number of the list is no handle.
 abbrev pub Refuses : List ℕ → ℕ → List ℕ → Gate → Type 0
 Refuses ws n l h = (v : ℕ) → Among v l → (Handle ws n v → ⊥) → h ≡ Refuse NotAHandle
 
@@ -74,7 +75,7 @@ module _ (ws : List ℕ) (n : ℕ) (s : List ℤ) (B b : ℕ) (l : List ℕ) (h 
     five = λ y m k v i z. rw (← row-passed (length ws) n m (omega arith), f v i z);
   }
 
--- one of the handles, or either of two
+-- The gate of one handle, and the gate of two handles.
 pub refuses-one : (ws : List ℕ) (n v : ℕ) → Refuses ws n (v ∷ []) (handleGate ws n v)
 refuses-one ws n v w i f = rw (List·Memᴰ·eq-of-singleton i) at (not-handle ws n w f)
 
@@ -89,7 +90,7 @@ refuses-both ws n a d w i f = elim (List·Memᴰ·cases-cons i) [
     second true h q = q
     second false h q = refl
 
--- a gate and no other after it
+-- A gate with no other gate after it.
 pub then-passed : (g : Gate) (a : Answer) → through (andThen g Pass) a ≡ through g a
 then-passed Pass a = refl
 then-passed (Refuse k) a = refl

@@ -1,8 +1,11 @@
--- In one tree the level calls by definition go to the next and to the last handle of a depth.
---   back-twice: back to an excess of k + 1 and then to the open is the last handle of depth k
---   leftmost, level-next: the first handle of depth k; the next after v, there being none of that depth while v is open
---   level-prev, rightmost: the last before v; the last of all, where the tree has two nodes at least
---   shallow: no handle is deeper than its position; start-last, last-one: where level_rightmost starts in one tree
+-- In a row that is one tree the level calls by definition go to the next handle of a depth, or to the last one before.
+--   back-twice: a backward search for an excess of k + 1 and then `open` answer the last handle of depth k
+--   leftmost: the first handle of depth k
+--   level-next: the next handle of that depth after v, because none lies between v and its close
+--   level-prev: the last handle of that depth before v
+--   shallow: the excess at y is at most y, so no handle is deeper than its position
+--   start-last, last-one: `level_rightmost` starts at the last position, and the excess there is 1
+--   rightmost: the last handle of depth k, if the tree has at least two outline nodes
 -- Assumes nothing.
 use mathlib.Core.Path.{_≡_, refl, sym, ap, _∙_}
 use mathlib.Core.Logic.{_⊎_, inl, inr}
@@ -31,7 +34,7 @@ use Rattle.demands.proofs.Depths.{Stands, turn, stands, at-depth, not-d
 use Rattle.demands.proofs.Closes.{bwd-prev, open-deep, E-zero, closing, root-up}
 
 module _ (ws : List ℕ) (n : ℕ) where
-  -- from where the excess and r make k + 1, back by r and then to the open
+  -- From a position x with E(x) + r = k + 1: a backward search for r, and then `open`.
   back-twice : (k r : ℤ) (x m : ℕ) → x < n → x ≤ m → E ws x +ℤ r ≡ k +ℤ pos 1 → ((y : ℕ) → x ≤ suc y → y < m → Stands ws n k y → ⊥)
       → onward (bwd ws n x r) (openOf (defined ws n)) ≡ prev (atDepth ws n k) m
   back-twice k r x m l u w f = ap (λ (a : Answer). onward a (openOf (defined ws n))) (bwd-prev ws n x r l) ∙ go (nearest p x)
@@ -39,7 +42,7 @@ module _ (ws : List ℕ) (n : ℕ) where
       p : ℕ → Bool
       p = excessBefore (E ws) (E ws x +ℤ r)
 
-      -- a handle of depth k has k + 1 after it
+      -- A handle of depth k has excess k + 1 after its bit.
       none : (y : ℕ) → y < m → (suc y < x → p (suc y) ≡ false) → Stands ws n k y → ⊥
       none y b g s = elim (decLt (suc y) x) [ yes a ↦ eqZ-false (E ws (suc y)) (E ws x +ℤ r) (g a) (s .over ∙ sym w) | no a ↦ f y (omega arith) b s ]
 
@@ -94,7 +97,7 @@ module _ (ws : List ℕ) (n : ℕ) where
         let r = shallow y (omega arith) in
         elim (turn ws n y h) [ inl u ↦ omega zsum | inr d ↦ omega zsum ]
 
-    -- level_rightmost starts at the last position
+    -- `level_rightmost` starts at the last position.
     start-last : lastStart ws n ≡ at (n - 1)
     unfolding lastStart
     start-last =
@@ -113,7 +116,8 @@ module _ (ws : List ℕ) (n : ℕ) where
     unfolding levelRightmost
     rightmost k three = go (ltb n k) refl
       where
-        -- at most the last but one could stand past the start: it is the root's close or, in a row of two, the root
+        -- No handle of depth k is n - 1 or n - 2. Position n - 1 is the close of the root. A handle n - 2 would have depth 0, so it would be the
+        -- root, and n would be 2.
         past : (y : ℕ) → n - 1 ≤ suc y → y < n → Stands ws n (pos k) y → ⊥
         past y a b s = elim (decLt (suc y) n) [
           | yes c ↦ (let w : suc y ≡ n - 1 = omega arith in

@@ -1,7 +1,9 @@
--- A child listing and its steps name what the calls that it goes by name, one after another.
---   held-next: what a step leaves held; named: the steps from an answer on
---   first-sought: what a making seeks; made-named, steps-named: a listing that is made, and its steps
---   answers-step: what `list` writes is what the steps answer
+-- A child listing and its steps answer the list that the child and sibling calls name.
+--   starting, siblingCall: the first question of a listing, and the question after each handle
+--   held-next: what a listing holds after a step; named: the answers of the steps from a held answer on
+--   begun-named: a constructor whose first question is not refused succeeds
+--   first-sought: the first question of a constructor; made-named, steps-named: the constructor and the steps of a listing
+--   answers-step: `list` writes what the steps answer
 -- Assumes nothing.
 use mathlib.Core.Path.{_≡_, refl, sym, ap, _∙_}
 use mathlib.Core.Bool.{Bool, true, false}
@@ -27,7 +29,7 @@ use Rattle.bp_spec.specs.declared.question.Question.the-variants.{FirstChild, L
 use Rattle.bp_spec.specs.Questions.{promised}
 use Rattle.demands.specs.Lists.{Names}
 
--- the questions by which a listing starts and goes on
+-- The first question of a listing, and the question after each handle.
 abbrev pub starting : Bool → ℕ → Question
 starting true = FirstChild
 starting false = LastChild
@@ -40,7 +42,7 @@ module _ (rising : Bool) (ws : RefT (List ℕ)) (n : ℕ) (s : RefT (List ℤ)) 
   abbrev ask : Question → Answer
   ask = promised (now ws) n (now s) B
 
-  -- the listing that holds a
+  -- The listing that holds a.
   abbrev with : Answer → Listing
   with a = record { words = ws; n = n; nodes = s; block = B; rising = rising; held = a }
 
@@ -58,7 +60,7 @@ module _ (rising : Bool) (ws : RefT (List ℕ)) (n : ℕ) (s : RefT (List ℤ)) 
       ∙ ap (λ (a : Answer). answerAt k (with a)) (held-next rising v)
       ∙ named l k (siblingCall rising v) (e .1)
 
-  -- what is named is not refused
+  -- If the calls name a list, the first question is not refused, and the constructor succeeds.
   begun-named : (l : List ℕ) (q : Question) → Names ask (siblingCall rising) q l → (making (ask q) ≡ at 0) × (begun (ask q) ≡ ask q)
   begun-named [] q e = (ap making e, ap begun e ∙ sym e)
   begun-named (v ∷ l) q e = (ap making (e .0), ap begun (e .0) ∙ sym (e .0))
@@ -80,7 +82,7 @@ module _ (rising : Bool) (ws : RefT (List ℕ)) (n : ℕ) (s : RefT (List ℤ)) 
           ap (λ (a : Answer). answerAt k (with a)) (ap begun (first-sought rising) ∙ begun-named l (starting rising v) e .1)
           ∙ named l k (starting rising v) e
 
--- what `list` writes is what the steps answer, in their order
+-- `list` writes what the steps answer, in their order.
 pub answers-step : (l : Listing) (c k : ℕ) (a : Answer) → k < length (answers (next l) c a)
     → getD (answers (next l) c a) k nothing ≡ answerAt k (holding l a)
 unfolding answers answerAt

@@ -1,8 +1,10 @@
--- The next number that passes a test, and the last one before: `least` and `greatest` of the row's definitions.
---   next, prev: the first from a on, below n; the last below t
---   next-yes, next-no, prev-yes, prev-no: by what the test says of one number
---   next-skip, prev-skip: numbers that do not pass are skipped; next-is, prev-is: the nearest; next-none, prev-none: there is none
---   Near, nearest: the last below t with all that it says, or none; prev-same: two tests that agree from a common hit on
+-- The next number that passes a test, and the last one before: `least` and `greatest` of the definition of the searches.
+--   next, prev: the first number from a on and below n that passes; the last number below t that passes
+--   next-yes, next-no, prev-yes, prev-no: the same, if the test of one number is known
+--   next-skip, prev-skip: numbers that do not pass are skipped
+--   next-is, prev-is: the nearest number that passes; next-none, prev-none: no number passes
+--   NearestBelow, nearest: the last number below t that passes, with its properties, or none
+--   prev-same: two tests that agree from a number on that passes both
 -- Assumes nothing.
 use mathlib.Core.Path.{_≡_, refl, sym, ap, _∙_}
 use mathlib.Core.Bool.{Bool, true, false}
@@ -75,7 +77,7 @@ module _ (p : ℕ → Bool) where
   unfolding greatest
   prev-none t f = prev-skip 0 t (omega arith) (λ k h q. f k q)
 
-  -- j is the last below t
+  -- j is the last number below t that passes.
   pub record NearestBelow (t j : ℕ) : Type 0 where
     pub is : prev t ≡ at j
     pub low : j < t
@@ -97,7 +99,7 @@ module _ (p : ℕ → Bool) where
           inl (j, record { is = prev-no t q ∙ h .is; low = omega arith; has = h .has; rest = λ k m r. last q k (decLt k t) r (h .rest k m) })
       go false q (inr f) = inr (λ k l. last q k (decLt k t) l (f k))
 
--- two tests that agree from a common hit on
+-- Two tests that agree from b on, where b passes both, have the same last number below t.
 pub prev-same : (p q : ℕ → Bool) (b t : ℕ) → b < t → p b ≡ true → ((k : ℕ) → b ≤ k → k < t → q k ≡ p k) → prev p t ≡ prev q t
 prev-same p q b t l h f = go (nearest p t)
   where

@@ -1,7 +1,9 @@
--- In one tree every handle but the root is the child of exactly one, its parent by definition.
---   over: the excess from the last place on where it was that of the depth above
---   Parent, parent-of: the last handle of the depth above, before w; a second parent would be open around the first
---   root-no-child: the root is nobody's child
+-- In a row that is one tree every handle but the root is a child of exactly one handle, its parent by definition.
+--   above, over: E(y) is at least E(w), if no position from y to w - 1 has excess E(w) - 1
+--   within, parent-opens, closes-later: so the last position u below w with excess E(w) - 1 is a handle whose close is after w
+--   one-parent: a second handle with the child w would lie between u and w or enclose u, and its excess rules out both
+--   Parent, parent-of: so u is the parent of w
+--   root-no-child: the root is no child
 -- Assumes nothing.
 use mathlib.Core.Path.{_≡_, _∙_}
 use mathlib.Core.Logic.{_⊎_, inl, inr}
@@ -30,7 +32,7 @@ use Rattle.row.proofs.Tree.{opens-low}
 use Rattle.demands.proofs.Closes.{Closed, closing, bwd-prev, E-zero}
 use Rattle.demands.proofs.Children.{kid, is-kid}
 
--- u is the one handle of which w is a child, and the parent by definition
+-- u is the only handle that has w as a child, and the parent of w by definition.
 pub record Parent (ws : List ℕ) (n w u : ℕ) : Type 0 where
   pub is : parent ws n (defined ws n) w ≡ at u
   pub open-is : Handle ws n u
@@ -38,12 +40,12 @@ pub record Parent (ws : List ℕ) (n w u : ℕ) : Type 0 where
   pub only : (v : ℕ) → Handle ws n v → childOf ws n v w ≡ true → v ≡ u
 
 module _ (ws : List ℕ) (n : ℕ) (t : OneTree ws n) where
-  -- where the excess is that before the parent
+  -- Tests whether a position has the excess of a parent of w, which is E(w) - 1.
   abbrev above : ℕ → ℕ → Bool
   above w = excessBefore (E ws) (E ws w +ℤ negsuc 0)
 
   module _ (w : ℕ) (o : Handle ws n w) (l : w < n) where
-    -- from the last such place on the excess stays over it
+    -- If no position from y to w - 1 has that excess, the excess at y is at least E(w).
     over : (y : ℕ) → y ≤ w → ((x : ℕ) → y ≤ x → x < w → above w x ≡ false) → E ws w ≤ℤ E ws y
     over y a f =
         let r = E ws w +ℤ negsuc 0 in

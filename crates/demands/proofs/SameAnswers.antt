@@ -1,11 +1,13 @@
--- Where the tests before an answer say the same of two rows and their nodes, and the first n bits and the nodes of those that pass are the
--- same, so is each answer: the walk reads nothing else, and no call does besides.
---   passed-same, tested-same: an answer behind tests
---   RowAlike, NodesAlike: the two rows, and their nodes
+-- Two rows with their nodes get the same answers under two conditions. The tests before an answer give the same result. And if they pass, the
+-- first n bits and the min-max nodes are the same. Neither the walk nor a call reads anything else.
+--   passed-same, tested-same: an answer after one gate, and after two gates
+--   RowAlike, NodesAlike: the conditions on two rows, and on two rows with their node buffers
 --   handle-same, tree-same: calls over the row alone
---   root-same: where level_rightmost starts; search-same, node-same, both-same, leftmost-same, rightmost-same, test-same: calls over nodes
---   sought-same, after-same, count-same, left-same: a listing
---   answers-same: each call
+--   root-same: the start of `level_rightmost`
+--   passed, tested, over: an answer after tests 1 to 4, with a gate of handles after them, and by searches
+--   search-same, node-same, both-same, leftmost-same, rightmost-same, test-same: calls over nodes
+--   starts, nexts, sought-same, after-same, listed-same, count-same, left-same: listings
+--   answers-same: every call
 -- Assumes nothing.
 use mathlib.Core.Path.{_≡_, refl, ap, _∙_, fun-ext}
 use mathlib.Core.Bool.{Bool, true, false, cond}
@@ -51,7 +53,7 @@ use Rattle.bp_spec.specs.Ranges.{kind}
 use Rattle.demands.proofs.SameWalk.{Alike, walk-same, searches-same}
 use Rattle.demands.proofs.SameCalls.{gate-same, outward-same, first-child-same, is-leaf-same, parent-same, last-child-same, next-sibling-same, previous-sibling-same, built-same}
 
--- ---- behind tests
+-- ---- an answer after tests
 passed-same : (g h : Gate) (a b : Answer) → g ≡ h → (g ≡ Pass → a ≡ b) → through g a ≡ through h b
 passed-same Pass h a b e f = let p = f refl in λ i. through (e i) (p i)
 passed-same (Refuse k) h a b e f = ap (λ (x : Gate). through x b) e
@@ -60,12 +62,12 @@ tested-same : (g h g' h' : Gate) (a b : Answer) → g ≡ h → (g ≡ Pass → 
 tested-same Pass h g' h' a b e f = let p = f refl in λ i. through (andThen (e i) (p .0 i)) (p .1 i)
 tested-same (Refuse k) h g' h' a b e f = ap (λ (x : Gate). through (andThen x h') b) e
 
--- refusals 2 and 3 say the same of both rows, and where there is none the first n bits are the same
+-- Tests 2 and 3 give the same result for both rows, and if they pass, the first n bits are the same.
 pub record RowAlike (ws vs : List ℕ) (n : ℕ) : Type 0 where
   pub gate : rowGate (length ws) n ≡ rowGate (length vs) n
   pub bits : rowGate (length ws) n ≡ Pass → Same ws vs n
 
--- and so do refusals 1 to 4 of the rows with their nodes
+-- Tests 1 to 4 give the same result for both rows and buffers, and if they pass, the first n bits and the min-max nodes are the same.
 pub record NodesAlike (ws vs : List ℕ) (n : ℕ) (s t : List ℤ) (B : ℕ) : Type 0 where
   pub gate : nodesGate (length ws) n (length s) B ≡ nodesGate (length vs) n (length t) B
   pub bits : nodesGate (length ws) n (length s) B ≡ Pass → Same ws vs n
@@ -102,7 +104,7 @@ module _ (ws vs : List ℕ) (n : ℕ) (s t : List ℤ) (B : ℕ) (same : NodesAl
   abbrev Passed : Type 0
   Passed = nodesGate (length ws) n (length s) B ≡ Pass
 
-  -- refusals 1 to 4, then an answer; and with tests of handles between
+  -- An answer after tests 1 to 4; and the same with a gate of handles after these tests.
   passed : (a b : Answer) → (Passed → a ≡ b)
       → through (nodesGate (length ws) n (length s) B) a ≡ through (nodesGate (length vs) n (length t) B) b
   passed a b f = passed-same (nodesGate (length ws) n (length s) B) (nodesGate (length vs) n (length t) B) a b (same .gate) f
@@ -111,7 +113,7 @@ module _ (ws vs : List ℕ) (n : ℕ) (s t : List ℤ) (B : ℕ) (same : NodesAl
       → through (andThen (nodesGate (length ws) n (length s) B) g) a ≡ through (andThen (nodesGate (length vs) n (length t) B) h) b
   tested g h a b f = tested-same (nodesGate (length ws) n (length s) B) (nodesGate (length vs) n (length t) B) g h a b (same .gate) f
 
-  -- a call over the one row and its searches, and over the other
+  -- A call that depends on the row and on its two searches.
   over : Passed → (c : List ℕ → Searches → Answer) → ((S : Searches) → c ws S ≡ c vs S) → c ws (walked ws n s B) ≡ c vs (walked vs n t B)
   over o c f = f (walked ws n s B) ∙ ap (c vs) (searches-same ws vs n s t B (same .bits o) (same .nodes o))
 

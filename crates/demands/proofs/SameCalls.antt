@@ -1,8 +1,11 @@
--- What a call reads of the row besides its searches, and a build and its test of it, are bits before n; so it is the same over rows with
--- the same first n bits. The calls that are not here read nothing of the row.
---   gate-same: the test of a handle; outward-same, first-child-same, is-leaf-same: calls without a search
---   parent-same, last-child-same, next-sibling-same, previous-sibling-same: calls over any searches
---   from-same, written-same: a node's rule, and the nodes that a build writes; all-same, built-same: the as-built test
+-- Besides its searches a call reads only bits of the row before n, and so do a build and the as-built test. So they read the same over two
+-- rows with the same first n bits. Calls that are not named here read the row only through their searches.
+--   all-same: two tests that agree on the numbers below c; opening, closing: the open bits and the close bits of the row
+--   gate-same: the gate of a handle
+--   outward-same: the difference that `enclose` searches; first-child-same, is-leaf-same: calls without a search
+--   parent-same, last-child-same, next-sibling-same, previous-sibling-same: calls over any pair of searches
+--   leaf-same, from-same, nodes-same: a block leaf, the rule of one min-max node, all min-max nodes
+--   written-same: the entries that a build writes; built-same: the as-built test
 -- Assumes nothing.
 use mathlib.Core.Path.{_≡_, refl, ap, ap₂, _∙_, fun-ext}
 use mathlib.Core.Bool.{Bool, _&&_, cond}
@@ -75,7 +78,7 @@ module _ (ws vs : List ℕ) (n : ℕ) (same : Same ws vs n) where
     unfolding previousSibling
     previous-sibling-same v = rw closing
 
-  -- ---- nodes
+  -- ---- min-max nodes
   module _ (B : ℕ) where
     leaf-same : (b : ℕ) → leafOf ws n B b ≡ leafOf vs n B b
     unfolding leafOf

@@ -1,8 +1,11 @@
--- The walk reads no bit from n on and no node past the last: over rows with the same first n bits and buffers with the same nodes it is
--- the same walk.
---   scan-same: a scan inside the row; asked-same: a node that is asked, if there is one
---   climb-same, descend-same: the way up, by induction on the steps allowed, and down, by the levels left
---   walk-same: the walk; searches-same: the two searches at once
+-- The walk reads no bit from position n on and no min-max node after the last one. So it is the same walk over two rows with the same first n
+-- bits and two buffers with the same min-max nodes.
+--   scan-same: a scan inside the row
+--   Alike: two buffers have the same first m min-max nodes; asked-same: a step that examines a min-max node, if it exists
+--   climb-same: the climb, by induction on the steps allowed; descend-same: the descent, by induction on the levels left
+--   start-same: the scan of the start block
+--   in-start-same, after-same, land-same, leaf-same: the walk after that scan, after the climb, after the descent, after the target block
+--   walk-same: the walk; searches-same: both searches
 -- Assumes nothing.
 use mathlib.Core.Path.{_≡_, refl, ap, _∙_}
 use mathlib.Core.Bool.{Bool, true, false, cond}
@@ -42,13 +45,13 @@ scan-same backward f g n e (suc c) a r h =
     rw (e (a + c) (omega arith))
     (ap (λ (x : Scanned). cond (eqZ q (pos 0)) (Hit (a + c)) x) (scan-same backward f g n e c a q (λ u. omega arith)))
 
--- ---- the nodes
--- the two buffers have the same first m nodes
+-- ---- the min-max nodes
+-- Both buffers have the same first m min-max nodes.
 abbrev pub Alike : List ℤ → List ℤ → ℕ → Type 0
 Alike s t m = (k : ℕ) → k < m → nodeAt s k ≡ nodeAt t k
 
 module _ (w : Way) (s t : List ℤ) (m : ℕ) (e : Alike s t m) where
-  -- a node past the last is not asked
+  -- A min-max node after the last one is not examined.
   asked-same : {A : Type 0} (k : ℕ) (r : ℤ) (none bad here here' : A) (past past' : ℤ → A) → here ≡ here' → ((q : ℤ) → past q ≡ past' q)
       → cond (leb m k) none (examine w (nodeAt s k) r bad here past) ≡ cond (leb m k) none (examine w (nodeAt t k) r bad here' past')
   asked-same {A} k r none bad here here' past past' p f = go (leb m k) refl
@@ -74,7 +77,7 @@ module _ (w : Way) (s t : List ℤ) (m : ℕ) (e : Alike s t m) where
       asked-same (nearer w k) r lost lost _ _ _ _ (descend-same h (nearer w k) r (suc c))
       (λ q. asked-same (farther w k) q lost lost _ _ (λ z. lost) (λ z. lost) (descend-same h (farther w k) q (suc (suc c))) (λ z. refl))
 
--- ---- the whole
+-- ---- the whole walk
 module _ (ws vs : List ℕ) (n : ℕ) (s t : List ℤ) (B : ℕ) (same : Same ws vs n) (e : Alike s t (count n B)) where
   start-same : (w : Way) (i : ℕ) (r : ℤ) → endsAtOnce w n i ≡ false → startScan w ws n B i r ≡ startScan w vs n B i r
   start-same forward i r z =

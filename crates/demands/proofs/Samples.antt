@@ -1,6 +1,7 @@
--- The lists of row T, `(()(()))`, computed; and `()` shows why a level's fall asks for more than two bits.
---   T-excess, T-tree, T-levels, T-children: T's excess, that it is one tree, its levels, the children of its handles
---   O-tree, O-level, O-falls: `()` is one tree, its root has level 0, and level_rightmost(0) is nothing
+-- The levels and children of row T, `(()(()))`, by computation. The row `()` shows why demand 3 names a level from the right only if n > 2.
+--   T, O: the words of row T and of the row `()`
+--   T-excess, T-tree, T-levels, T-children: the excess of T, that T is one tree, its levels, the children of its handles
+--   O-tree, O-level, O-falls: `()` is one tree, its level 0 has only the root, and `level_rightmost(0)` is nothing
 -- Assumes nothing.
 use mathlib.Core.Path.{_≡_, refl}
 use mathlib.Core.List.{List, [], _∷_}
@@ -48,7 +49,7 @@ pub O-level : level O 2 0 ≡ 0 ∷ []
 unfolding those atDepth opens excess sign eqZ
 O-level = refl
 
--- nothing at once, though the root stands at depth 0
+-- The first answer is nothing, although the root has depth 0.
 pub O-falls : Names (definition O 2) LevelPrev (rightmost 0) []
 unfolding rightmostDefined levelRightmost ones lastStart excess sign eqZ bwd greatest
 O-falls = refl

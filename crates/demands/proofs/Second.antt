@@ -1,6 +1,9 @@
--- Demand 2.
---   tells, tells-tree, tells-built: the two tests; left, same, builds, fine-left: what a build leaves
---   near-forward, near-backward: the definitions find the nearest; answers: every answer over nodes as built
+-- Proof of demand 2.
+--   tells: a Bool that is true exactly when a fact holds gives a right test; tells-tree, tells-built: the two tests
+--   gate: an input that is `Fine` passes refusals 1 to 4
+--   left, same, builds: what a build leaves in the buffer; fine-left: the buffer is `Fine` after the build too
+--   ahead-of, behind-of, near-forward, near-backward: the searches by definition answer the nearest position
+--   answers: over nodes as built, every answer equals its definition
 --   second: the demand
 -- Assumes nothing.
 use mathlib.Core.Path.{_≡_, refl, sym, _∙_}
@@ -11,6 +14,7 @@ use native.Mathlib.Omega.{arith}
 use lib.IntN.{ℤ}
 use lib.ListN.{length, drop, length-append, length-drop}
 use lib.Seq.{drop-at}
+use Rattle.row.specs.Limits.{maxBits}
 use Rattle.ints.proofs.Linear.{never-true}
 use Rattle.row.specs.declared.gate.Gate.the-variants.{Pass}
 use Rattle.row.specs.Answer.{Answer, at, nothing, refused}
@@ -35,7 +39,7 @@ use Rattle.demands.specs.Second.{Builds, Tells, Nearest, Answers, Second
 use Rattle.bp_spec.proofs.CallsAgree.{equal}
 use Rattle.bp_spec.proofs.DefinitionRange.{only-five}
 
--- ---- a test that decides
+-- ---- the two tests
 tells : (fact : Type 0) (t : Bool) → (t ≡ true → fact) → (fact → t ≡ true) → Tells fact (cond t (at 1) (at 0))
 tells fact true f g = record {
   if-so = λ x. refl;
@@ -50,7 +54,7 @@ tells fact false f g = record {
   not-so = λ e x. never-true (g x);
 }
 
-tells-tree : (ws : List ℕ) (n : ℕ) → n ≤ 4294967296 → n ≤ 64 * length ws → Tells (OneTree ws n) (oneTreeAnswer ws n)
+tells-tree : (ws : List ℕ) (n : ℕ) → n ≤ maxBits → n ≤ 64 * length ws → Tells (OneTree ws n) (oneTreeAnswer ws n)
 unfolding oneTreeAnswer
 tells-tree ws n h k =
     let o : rowGate (length ws) n ≡ Pass = sym (row-passed (length ws) n h (omega arith)) in

@@ -1,8 +1,11 @@
--- Bits at n and beyond, surplus words, and numbers past the nodes never matter to an answer: where both rows have words enough and both
--- buffers room, the tests before an answer say the same of them, whatever the bit count and the block size.
---   row-same, room-same, nodes-gate-same: the tests; first-bits, first-nodes: bits and nodes; row-alike, nodes-alike: so both are alike
---   done-same, front: the build; step-same, listing-same: a listing step by step
---   more-words, more-numbers: what is added; surplus: all of it
+-- Surplus never matters to an answer. Both rows have enough words and both buffers enough room. So the tests before an answer give the same
+-- result, whatever the bit count and the block size are.
+--   row-same, room-same, nodes-gate-same: the tests; first-bits, first-nodes: the bits and the min-max nodes
+--   row-alike, nodes-alike: so SameAnswers applies to the rows and the buffers
+--   done-same: the answer of a build; open-at: a gate passes if the answer after it is 0; front: the nodes that a build writes
+--   with, step-same, listing-same: a listing step by step
+--   more-words, more-numbers: added words and added entries
+--   surplus: the whole statement
 -- Assumes nothing.
 use mathlib.Core.Path.{_≡_, refl, sym, ap, _∙_}
 use mathlib.Core.Bool.{Bool}
@@ -31,7 +34,7 @@ use Rattle.demands.proofs.SameWalk.{Alike}
 use Rattle.demands.proofs.SameCalls.{written-same}
 use Rattle.demands.proofs.SameAnswers.{RowAlike, NodesAlike, tree-same, test-same, sought-same, after-same, count-same, left-same, answers-same}
 
--- ---- the tests: both have room
+-- ---- the tests: both rows have enough words, and both buffers enough room
 row-same : (ws vs : List ℕ) (n : ℕ) → SameRow ws vs n → rowGate (length ws) n ≡ rowGate (length vs) n
 unfolding rowGate
 row-same ws vs n same =
@@ -78,7 +81,7 @@ nodes-alike ws vs n s t B same nodes = record {
 done-same : (ws vs : List ℕ) (n : ℕ) (s t : List ℤ) (B : ℕ) → SameRow ws vs n → Roomy s t (count n B) → buildAnswer ws n s B ≡ buildAnswer vs n t B
 done-same ws vs n s t B same room = ap (λ (g : Gate). through g (at 0)) (nodes-gate-same ws vs n s t B same room)
 
--- an answer that is no refusal comes through an open gate
+-- If the answer after a gate is no refusal, the gate passes.
 open-at : (g : Gate) → through g (at 0) ≡ at 0 → g ≡ Pass
 open-at Pass e = refl
 open-at (Refuse k) e = let z : _≡_ {A = ℕ} 0 1 = cc in absurd (omega arith)
@@ -91,7 +94,7 @@ front ws n s B e =
 
 -- ---- a listing, step by step
 module _ (rising : Bool) (ws vs : RefT (List ℕ)) (n : ℕ) (s t : RefT (List ℤ)) (B : ℕ) (same : NodesAlike (now ws) (now vs) n (now s) (now t) B) where
-  -- the listing that holds a
+  -- The listing over the words us and the node buffer u that holds a.
   abbrev with : RefT (List ℕ) → RefT (List ℤ) → Answer → Listing
   with us u a = record { words = us; n = n; nodes = u; block = B; rising = rising; held = a }
 
@@ -110,7 +113,7 @@ module _ (rising : Bool) (ws vs : RefT (List ℕ)) (n : ℕ) (s t : RefT (List �
         step = λ k. step-same k (begun (sought rising (now ws) n (now s) B v)) ∙ ap (λ (b : Answer). answerAt k (with vs t (begun b))) a;
       }
 
--- ---- words and numbers that are added
+-- ---- added words and added entries
 more-words : (ws vs : List ℕ) (n : ℕ) → n ≤ 64 * length ws → SameRow (ws ++ vs) ws n
 more-words ws vs n l = record {
   words = (simp length-append (omega arith), l);
@@ -123,7 +126,7 @@ more-numbers s t m l = record {
   numbers = λ k h. List·getD-append s t (pos 0) k (omega arith);
 }
 
--- ---- all of it
+-- ---- the whole statement
 pub surplus : Surplus
 surplus = record {
   answers = λ ws vs n s t B q same nodes.

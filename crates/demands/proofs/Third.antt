@@ -1,7 +1,11 @@
--- Demand 3. Answers that are the definitions' tour one tree as it asks: each listing is `rises` or `falls` at the next and the last handle of
--- a depth (Levels) or child (Children); over nodes as built the calls' answers are the definitions' (Second).
---   passed, on-handle: a definition on a handle is not refused; shallow: no handle has a depth past the deepest
---   tours-defined: any answers that are the definitions'; alike: those over nodes as built; third: the demand
+-- Proof of demand 3. By `rises` and `falls` (CallChains) calls name a whole list if each of them goes to the next entry, or to the last one
+-- before. The level calls do so for the handles of a depth (Levels), and the child calls for the children (Children). Over nodes as built the
+-- calls answer their definitions (Second).
+--   passed, on-handle: the gate of a handle passes, so a call by definition on a handle is not refused
+--   shallow: if every handle is less deep than k, no handle has depth k
+--   by: what a call on a handle answers
+--   tours-defined: answers that equal the definitions satisfy `Tours`; alike: so do the answers over nodes as built
+--   third: the demand
 -- Assumes nothing.
 use mathlib.Core.Path.{_≡_, refl, sym, _∙_}
 use mathlib.Core.Bool.{true, false}
@@ -46,7 +50,7 @@ use Rattle.demands.proofs.Second.{second}
 use Rattle.demands.proofs.Listings.{made-named, steps-named}
 
 module _ (ws : List ℕ) (n : ℕ) where
-  -- a handle is not refused
+  -- The gate of a handle passes.
   passed : (v : ℕ) (a : Answer) → Handle ws n v → through (handleGate ws n v) a ≡ a
   unfolding handleGate
   passed v a o = rw o
@@ -55,7 +59,7 @@ module _ (ws : List ℕ) (n : ℕ) where
   unfolding nodeDefined
   on-handle c v o = passed v (c ws n (defined ws n) v) o
 
-  -- no handle has the depth
+  -- No handle has depth k.
   shallow : (k : ℕ) → ((v : ℕ) → Handle ws n v → E ws v <ℤ pos k) → (v : ℕ) → atDepth ws n (pos k) v ≡ false
   shallow k f v = not-depth ws n (pos k) v (λ s. let l = f v (s .open-is) in omega zsum)
 

@@ -1,6 +1,6 @@
--- The worth of each promise: one law for each kind of answer, applied to what each call promises.
---   itself: what is promised as it is
---   worth: all of them
+-- At most one result satisfies each promise: one law per answer type (AnswerInverses), applied to what each call promises.
+--   itself: a promise that names the result itself
+--   uniqueness: the whole statement
 -- Assumes nothing.
 use mathlib.Core.Path.{sym, _∙_}
 use Rattle.row.specs.Answer.{numberOf}

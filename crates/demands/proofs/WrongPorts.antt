@@ -1,8 +1,9 @@
--- Ports that the demands shut out, each on a small row: T is `(()(()))`.
---   refusing, silent, fixed: one that refuses all, answers nothing, or answers one position throughout (demand 2)
---   tree-no, built-no: a test says no (demand 2), so one that never does is shut out
---   unwritten: nodes that no build wrote are not as built (demand 2)
---   ended: a listing that gives the first child and then ends (demand 3)
+-- Wrong programs that the demands rule out (SCOPE, The demands), each shown on a small row. T is `(()(()))`.
+--   closes-at-7, next-is-1: two answers by definition on T
+--   refusing, silent, fixed: a port that refuses everything, always answers nothing, or always answers one position (demand 2)
+--   tree-no, built-no: each test says no on some input, so a test that never says no is ruled out (demand 2)
+--   zeros, untested, unwritten: six zeros are not the nodes of T, so a build that writes no node is ruled out (demand 2)
+--   two-children, root-opens, ended: a listing that stops after the first child (demand 3)
 -- Assumes nothing.
 use mathlib.Core.Path.{_≡_, refl, sym, _∙_}
 use mathlib.Core.Bool.{true, false}
@@ -62,7 +63,7 @@ module _ (ask : Question → Answer) (right : Answers T 8 ask) where
       let z : _≡_ {A = ℕ} 7 1 = cc in
       omega arith
 
--- `))` is no tree, and six zeros are not T's nodes
+-- The row `))` is not one tree, and six zeros are not the nodes of T.
 pub tree-no : oneTreeAnswer (0 ∷ []) 2 ≡ at 0
 unfolding oneTreeAnswer rowGate oneTree allBelow excess sign eqZ
 tree-no = refl

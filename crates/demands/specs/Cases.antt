@@ -1,4 +1,4 @@
--- Cases a to l of document 01's small rows, as one table with one claim.
+-- SCOPE, Small rows: cases a to l as one table with one claim.
 -- Assumes nothing.
 use mathlib.Core.Path.{_≡_}
 use mathlib.Core.List.{List, [], _∷_, map}
@@ -10,22 +10,22 @@ use Rattle.bp_spec.specs.declared.question.Question.{Question}
 use Rattle.bp_spec.specs.declared.question.Question.the-variants.{FwdSearch, BwdSearch, Enclose, LevelAncestor, LevelNext, LevelPrev, LevelRightmost}
 use Rattle.bp_spec.specs.Questions.{promised, definition}
 
--- a row of n bits, a question on it, and the answer that it is to have
+-- A case: the words and the bit count of a row, a question, and the answer that SCOPE gives.
 pub record Case : Type 0 where
   pub words : List ℕ
   pub bits : ℕ
   pub question : Question
   pub answer : Answer
 
--- row T is `(()(()))`: bits 1, 1, 0, 1, 1, 0, 0, 0, the first least significant
+-- A case on row T, `(()(()))`: one word with the bits 1, 1, 0, 1, 1, 0, 0, 0, the least significant one first.
 abbrev pub onT : Question → Answer → Case
 onT q a = record { words = 27 ∷ []; bits = 8; question = q; answer = a }
 
--- row `()`: bits 1, 0
+-- A case on the row `()`: one word with the bits 1, 0, the least significant one first.
 abbrev pub onPair : Question → Answer → Case
 onPair q a = record { words = 1 ∷ []; bits = 2; question = q; answer = a }
 
--- j and l have two questions each
+-- The cases in their order. Cases j and l have two questions each.
 unfoldable pub table : List Case
 table =
     -- a, b, c, d
@@ -49,14 +49,14 @@ table =
     ∷ onPair (LevelRightmost 0) nothing
     ∷ []
 
--- what the definition gives for a case, and what the call gives over the nodes that a build writes for blocks of 8
+-- Two answers to a case: that of the definition, and that of the call over the nodes of a build with B = 8.
 abbrev pub given : Case → Answer × Answer
 given c = (definition (c .words) (c .bits) (c .question), promised (c .words) (c .bits) (written (c .words) (c .bits) 8) 8 (c .question))
 
--- what both are to be
+-- The answer of the table, twice: what `given` has to be.
 abbrev pub wanted : Case → Answer × Answer
 wanted c = (c .answer, c .answer)
 
--- the claim: in every case both are the answer of the table
+-- The claim: in every case both the definition and the call give the answer of the table.
 abbrev pub Claim : Type 0
 Claim = map given table ≡ map wanted table

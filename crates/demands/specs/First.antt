@@ -1,20 +1,24 @@
--- Demand 1: no row of bits, node numbers, position or level makes a call trap or run on; every public call tests what it is lent; a refusal
--- carries its number from document 01 and changes no lent slice.
+-- SCOPE, The demands, demand 1: every input is safe. It is stated of what the calls promise, for every input:
+--   answers, one-tree, as-built, build, read: the values and the refusals that each call may give
+--   order: the first test that fails gives its number
+--   build-leaves, read-leaves: a refused build leaves the node buffer unchanged, and a refused reading the words
 --
--- That no call traps or runs on is what a proved function is. Here it is said of what the calls promise, for every input: which values and
--- which refusals each may give, in which order it tests, and what a refusal leaves. Calls other than the build and the text reader are lent
--- nothing that they could write.
+-- Rattle proves of every function that it terminates and never traps, so this file does not state it.
+-- It does not state listings either: their steps answer what the child and sibling calls answer.
+-- Three calls are passed a slice that they may write: `build`, the text reader and `list`. What `list` leaves in its slice `out` is fixed by
+-- `leftOf` in list_slice: if the constructor is refused, that is `out` unchanged.
 -- Assumes nothing.
 use mathlib.Core.Path.{_≡_}
 use mathlib.Core.Bool.{true}
 use mathlib.Core.List.{List, [], _∷_}
-use Prim.Native.Nat.{ℕ, _*_, _%_, _≤_, _<_}
+use Prim.Native.Nat.{_+_, ℕ, _*_, _%_, _≤_, _<_}
 use lib.IntN.{ℤ}
 use lib.ListN.{length}
+use Rattle.row.specs.Limits.{maxBits}
 use Rattle.row.specs.Answer.{Answer, refused}
 use Rattle.text.specs.Text.{readAnswer, textWords}
 use Rattle.one_tree.specs.OneTree.{oneTreeAnswer}
-use Rattle.mmt_layout.specs.Layout.{width, count, Fine}
+use Rattle.mmt_layout.specs.Layout.{width, count, Fine, maxBlock}
 use Rattle.mmt_build.specs.Build.{buildAnswer, builtNodes}
 use Rattle.mmt_build.specs.Check.{asBuiltAnswer}
 use Rattle.bp_spec.specs.declared.question.Question.{Question}
@@ -22,22 +26,23 @@ use Rattle.bp_spec.specs.Questions.{promised}
 use Rattle.row.specs.Tree.{Handle}
 use Rattle.bp_spec.specs.Ranges.{Among, Kind, May, kind, refusals}
 
--- a block size that refusal 1 lets pass: a multiple of 8 from 8 to 65,536
+-- A block size that passes refusal 1: a multiple of 8 from 8 to 65,536.
 pub record BlockSize (B : ℕ) : Type 0 where
   pub eight : 8 ≤ B
   pub eights : B % 8 ≡ 0
-  pub small : B ≤ 65536
+  pub small : B ≤ maxBlock
 
--- the tests in document 01's order, 1, 2, 3, 4, 5: the first that is not passed gives its number
+-- The tests come in the order 1, 2, 3, 4, 5, and the first test that fails gives the answer (SCOPE, Refusals).
+-- Tests 1 and 4 concern only calls that take a node buffer, test 5 only calls that take a handle.
 pub record InOrder (ws : List ℕ) (n : ℕ) (s : List ℤ) (B : ℕ) (k : Kind) (a : Answer) : Type 0 where
   pub one : k .nodes ≡ true → (BlockSize B → ⊥) → a ≡ refused 1
-  pub two : (k .nodes ≡ true → BlockSize B) → 4294967296 < n → a ≡ refused 2
-  pub three : (k .nodes ≡ true → BlockSize B) → n ≤ 4294967296 → 64 * length ws < n → a ≡ refused 3
-  pub four : k .nodes ≡ true → BlockSize B → n ≤ 4294967296 → n ≤ 64 * length ws → length s < width * count n B → a ≡ refused 4
-  pub five : (k .nodes ≡ true → Fine (length ws) n (length s) B) → n ≤ 4294967296 → n ≤ 64 * length ws
+  pub two : (k .nodes ≡ true → BlockSize B) → maxBits < n → a ≡ refused 2
+  pub three : (k .nodes ≡ true → BlockSize B) → n ≤ maxBits → 64 * length ws < n → a ≡ refused 3
+  pub four : k .nodes ≡ true → BlockSize B → n ≤ maxBits → n ≤ 64 * length ws → length s < width * count n B → a ≡ refused 4
+  pub five : (k .nodes ≡ true → Fine (length ws) n (length s) B) → n ≤ maxBits → n ≤ 64 * length ws
       → (v : ℕ) → Among v (k .handles) → (Handle ws n v → ⊥) → a ≡ refused 5
 
--- the demand, for every input
+-- Demand 1, for every input.
 pub record First : Type 0 where
   pub answers : (ws : List ℕ) (n : ℕ) (s : List ℤ) (B : ℕ) (q : Question)
       → May (kind n q .below) (refusals (kind n q .nodes) (kind n q .handles)) (promised ws n s B q)
@@ -46,5 +51,5 @@ pub record First : Type 0 where
   pub as-built : (ws : List ℕ) (n : ℕ) (s : List ℤ) (B : ℕ) → May 2 (1 ∷ 2 ∷ 3 ∷ 4 ∷ []) (asBuiltAnswer ws n s B)
   pub build : (ws : List ℕ) (n : ℕ) (s : List ℤ) (B : ℕ) → May 1 (1 ∷ 2 ∷ 3 ∷ 4 ∷ []) (buildAnswer ws n s B)
   pub build-leaves : (ws : List ℕ) (n : ℕ) (s : List ℤ) (B k : ℕ) → buildAnswer ws n s B ≡ refused k → builtNodes ws n s B ≡ s
-  pub read : (text ws : List ℕ) → May 4294967297 (2 ∷ 6 ∷ 3 ∷ []) (readAnswer text ws)
+  pub read : (text ws : List ℕ) → May (maxBits + 1) (2 ∷ 6 ∷ 3 ∷ []) (readAnswer text ws)
   pub read-leaves : (text ws : List ℕ) (k : ℕ) → readAnswer text ws ≡ refused k → textWords text ws ≡ ws

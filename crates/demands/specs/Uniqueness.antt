@@ -1,8 +1,8 @@
--- The worth of each promise: any two answers that it allows agree, and so do any two later contents of each slice that a call may write, for
--- every input, refused ones too.
+-- SCOPE, The demands: at most one result satisfies each promise, for every input, refused ones too. The result is the answer together with
+-- the later content of each slice that the call may write.
 --
--- A promise says what an answer is on paper; so there is one statement for each kind of answer, over what every call of that kind promises.
--- The functions that other languages call promise their one number, and each later slice, as they are.
+-- A promise fixes the specification answer. So there is one statement per answer type, over what every call of that type promises.
+-- The C functions promise their i64 and the later slices themselves, so they need no statement here.
 -- Assumes nothing.
 use mathlib.Core.Path.{_≡_}
 use mathlib.Core.Bool.{Bool}
@@ -22,31 +22,32 @@ use Rattle.list_slice.specs.WholeListing.{paperListed, countOf, leftOf}
 use Rattle.bp_spec.specs.declared.question.Question.{Question}
 use Rattle.bp_spec.specs.Questions.{promised}
 
--- the promise that something is d on paper leaves one thing
+-- At most one result of the code has the specification value d.
 abbrev pub One : {A P : Type 0} → (A → P) → P → Type 0
 One {A} paper d = (a b : A) → paper a ≡ d → paper b ≡ d → a ≡ b
 
--- the same of what is promised as it is
+-- At most one result equals d. This is for promises that name the result itself.
 abbrev pub Itself : {A : Type 0} → A → Type 0
 Itself {A} d = One (λ (a : A). a) d
 
+-- At most one result satisfies each promise.
 pub record Uniqueness : Type 0 where
-  -- searches, and the calls on nodes and levels, that answer a position; those that say yes or no
+  -- The calls that answer a position; the calls that answer yes or no.
   pub found : (ws : List ℕ) (n : ℕ) (s : List ℤ) (B : ℕ) (q : Question) → One paperFound (promised ws n s B q)
   pub told : (ws : List ℕ) (n : ℕ) (s : List ℤ) (B : ℕ) (q : Question) → One paperTold (promised ws n s B q)
-  -- the two tests
+  -- The one-tree test and the as-built test.
   pub one-tree : (ws : List ℕ) (n : ℕ) → One paperTold (oneTreeAnswer ws n)
   pub as-built : (ws : List ℕ) (n : ℕ) (s : List ℤ) (B : ℕ) → One paperTold (asBuiltAnswer ws n s B)
-  -- the build and the text reader, and what they leave
+  -- The build and the text reader, and what they leave in their slices.
   pub build : (ws : List ℕ) (n : ℕ) (s : List ℤ) (B : ℕ) → One paperBuilt (buildAnswer ws n s B)
   pub build-left : (ws : List ℕ) (n : ℕ) (s : List ℤ) (B : ℕ) → Itself (builtNodes ws n s B)
   pub read : (text ws : List ℕ) → One paperRead (readAnswer text ws)
   pub read-left : (text ws : List ℕ) → Itself (textWords text ws)
-  -- a listing's making, either way, and its step
+  -- The constructor of a listing, in either direction, and its step.
   pub made-listing : (rising : Bool) (ws : RefT (List ℕ)) (n : ℕ) (s : RefT (List ℤ)) (B v : ℕ) → One paperMade (created rising ws n s B v)
   pub step : (l : Listing) → One paperStep (stepped l)
-  -- a whole listing, and what it leaves
+  -- `list`, and what it leaves in its slice.
   pub list : (rising : Bool) (ws : List ℕ) (n : ℕ) (s : List ℤ) (B v c : ℕ) → One paperListed (countOf rising ws n s B v c)
   pub list-left : (rising : Bool) (ws : List ℕ) (n : ℕ) (s : List ℤ) (B v : ℕ) (out : List ℤ) → Itself (leftOf rising ws n s B v out)
-  -- a refusal's number
+  -- The number of a refusal.
   pub number : (k : Refusal) → Itself (numberOf k)

@@ -1,2 +1,2 @@
-// The privacy officer's demands, stated over the promises of the public calls. There is no code here: specs/ holds the statements, proofs/
-// their proofs.
+// States and proves the privacy officer's three demands over the promises of the public calls (SCOPE, The demands).
+// This crate has no code: specs/ has the statements, proofs/ has their proofs.

@@ -1,11 +1,16 @@
--- Linear facts on ℤ for `omega`, which reads naturals alone: an integer z is `up z - dn z`, of two naturals.
--- Both are `abbrev`, so that at `pos n` and `negsuc n`, literals among them, they compute.
---   plus, minus, diff: an entry of `omega`'s list for a term a + b, a - b, pos a - pos b
---   plus-size, minus-size: how large a sum and a difference can be
---   of-≡, of-≤, of-<, leZ-true, leZ-false, ltZ-true, ltZ-false, never-true, never-false: what a hypothesis says
---   to-≡, to-≤, to-<, to-fits: what a goal asks
---   back, bits-≡: what the machine reads back from a signed number's bits, and what equal bits say
---   zlin: all the rules
+-- Rules with which `omega` proves linear facts about integers. `omega` knows only naturals, so an integer z is written as
+-- `up z - dn z`, a difference of two naturals. Both are `abbrev`, so they compute on `pos n`, on `negsuc n` and on literals.
+--   plus, minus: `a +ℤ b` (`a -ℤ b`) as an equation between naturals; `omega` needs one for each sum (difference) in a goal
+--   diff: the same for `subℕ a b`, to which sums and differences of known signs compute
+--   plus-size, minus-size: |a + b| and |a - b| are at most |a| + |b|
+--   of-≡, of-≤, of-<: turn a hypothesis on integers into one on naturals
+--   leZ-true, leZ-false, ltZ-true, ltZ-false: turn the result of a Boolean test into a fact on naturals
+--   to-≡, to-≤, to-<: reduce a goal on integers to one on naturals
+--   to-fits: reduces the goal that z fits into an i64 to one on naturals
+--   back: encoding z in 64 bits and decoding it gives z again, if z fits into an i64
+--   bits-≡: two numbers that fit into an i64 and have the same 64 bits are equal
+--   never-true, never-false: `false ≡ true` and `true ≡ false` are contradictions
+--   zlin: the rules that `omega` applies without being given a term
 -- Assumes nothing.
 use mathlib.Core.Path.{_≡_, refl, sym, ap, _∙_, subst}
 use mathlib.Core.Bool.{Bool, true, false, not, cond}
@@ -19,7 +24,7 @@ use mir.Val.{SFits, toZ, ofZ}
 use mir.ValLaws.{toZ-ofZ}
 use Rattle.ints.specs.Sides.{up, dn, size}
 
--- ---- sums, differences, negations: an entry of `omega`'s list for each compound term
+-- ---- sums, differences, negations: one fact for `omega` per compound term
 split : (c : Bool) (x y : ℤ) (P : ℤ → Type 0) → (T c → P x) → (T (not c) → P y) → P (cond c x y)
 split true x y P f g = f tt
 split false x y P f g = g tt
@@ -29,7 +34,7 @@ sub-ud a b = split (ltb a b) (negsuc (b - suc a)) (pos (a - b)) (λ (z : ℤ). u
     (λ t. let h : a < b = ltb→lt a b t in omega arith)
     (λ t. let h : b ≤ a = nltb→le a b t in omega arith)
 
--- where both are `pos` of something, `+ℤ` and `-ℤ` compute to `subℕ`, and this is the entry
+-- For operands of known sign, `+ℤ` and `-ℤ` may compute to `subℕ`. Then `omega` needs this fact.
 pub diff : (a b : ℕ) → up (subℕ a b) + b ≡ a + dn (subℕ a b)
 diff = sub-ud
 
@@ -52,7 +57,7 @@ dn-neg (negsuc n) = refl
 pub minus : (a b : ℤ) → up (a -ℤ b) + (dn a + up b) ≡ (up a + dn b) + dn (a -ℤ b)
 minus a b = omega (arith, plus a (negℤ b), up-neg b, dn-neg b)
 
--- how large a sum and a difference can be: `omega` does not know that one of a number's two sides is 0
+-- The size of a sum or a difference. `omega` cannot bound it alone, because it does not know that `up z` or `dn z` is 0.
 sized : (z : ℤ) (p q : ℕ) → up z + q ≡ p + dn z → size z ≤ p + q
 sized (pos n) p q e = omega arith
 sized (negsuc n) p q e = omega arith
@@ -63,7 +68,7 @@ plus-size a b = omega (arith, sized (a +ℤ b) (up a + up b) (dn a + dn b) (plus
 pub minus-size : (a b : ℤ) → size (a -ℤ b) ≤ size a + size b
 minus-size a b = omega (arith, sized (a -ℤ b) (up a + dn b) (dn a + up b) (minus a b))
 
--- ---- what a hypothesis says: rules of `omega`'s list
+-- ---- hypotheses on integers as facts on naturals
 pub of-≡ : {a b : ℤ} → a ≡ b → up a + dn b ≡ up b + dn a
 of-≡ {a} {b} e = subst (λ (z : ℤ). up a + dn z ≡ up z + dn a) e refl
 
@@ -85,7 +90,7 @@ of-≤ {a} {b} h = leT a b (h .le)
 pub of-< : {a b : ℤ} → a <ℤ b → up a + dn b < up b + dn a
 of-< {a} {b} h = ltT a b (h .lt)
 
--- ---- what a goal asks
+-- ---- goals on integers from facts on naturals
 toLeT : (a b : ℤ) → up a + dn b ≤ up b + dn a → T (leZ a b)
 toLeT (pos a) (pos b) h = le→leb a b (omega arith)
 toLeT (pos a) (negsuc b) h = omega arith
@@ -110,7 +115,7 @@ to-≡ {a = pos a} {b = negsuc b} h = let z : ⊥ = omega arith in absurd z
 to-≡ {a = negsuc a} {b = pos b} h = let z : ⊥ = omega arith in absurd z
 to-≡ {a = negsuc a} {b = negsuc b} h = ap negsuc (omega arith)
 
--- ---- tests
+-- ---- results of Boolean tests
 pub leZ-true : (a b : ℤ) → leZ a b ≡ true → up a + dn b ≤ up b + dn a
 leZ-true a b e = leT a b (subst T (sym e) tt)
 
@@ -129,26 +134,26 @@ ltZ-false (pos a) (negsuc b) e = omega arith
 ltZ-false (negsuc a) (pos b) e = absurd (subst T e tt)
 ltZ-false (negsuc a) (negsuc b) e = let h = nltb→le b a (subst (λ (x : Bool). T (not x)) (sym e) tt) in omega arith
 
--- ---- fit
--- one statement, so that it is a rule for a goal: at z ≥ 0 the second difference is 0, and below it the first
+-- ---- numbers that fit into an i64
+-- One premise for both signs, so that `omega` can use it as a rule. The second difference is 0 if z >= 0, the first if z < 0.
 pub to-fits : {z : ℤ} → (up z - dn z) + (dn z - suc (up z)) < 2 ^ 63 → SFits w64 z
 to-fits {z = pos n} h = record { sfits = omega arith }
 to-fits {z = negsuc n} h = record { sfits = omega arith }
 
--- what the machine reads back from a signed number's bits
+-- Encoding a signed number in 64 bits and decoding it gives the same number.
 pub back : {z : ℤ} → SFits w64 z → up (toZ w64 (ofZ w64 z)) + dn z ≡ up z + dn (toZ w64 (ofZ w64 z))
 back {z} h = of-≡ (toZ-ofZ w64 z h)
 
--- `==` of two signed numbers tests their bits
+-- The machine evaluates `==` on two signed numbers by comparing their bits.
 pub bits-≡ : {a b : ℤ} → SFits w64 a → SFits w64 b → ofZ w64 a ≡ ofZ w64 b → a ≡ b
 bits-≡ {a} {b} f g e = sym (toZ-ofZ w64 a f) ∙ ap (toZ w64) e ∙ toZ-ofZ w64 b g
 
--- a flag that was answered the other way
+-- A Boolean is never both true and false.
 pub never-true : false ≡ true → ⊥
 never-true e = subst T (sym e) tt
 
 pub never-false : true ≡ false → ⊥
 never-false e = subst T e tt
 
--- the whole list: `omega zlin`, or `omega (zlin, plus a b)` with an entry for each compound term
+-- The list of rules. It is used as `omega zlin`, or as `omega (zlin, plus a b)` with one fact for each sum or difference.
 pub ruleset zlin = (arith, of-≡, of-≤, of-<, leZ-true, leZ-false, ltZ-true, ltZ-false, back, to-≡, to-≤, to-<, to-fits, never-true, never-false)

@@ -1,8 +1,10 @@
--- Laws of the lesser and the greater of two integers and of the test of equality.
---   min-ud, max-ud: entries of `omega`'s list for a term minZ a b, maxZ a b
---   min-size, max-size: neither is larger than both
---   eqZ-true, eqZ-false: what a test of equality found; eqZ-yes, eqZ-no: what it finds
---   bits-eqZ: the machine's test of equality; le-test: the test of an order that holds
+-- Laws of `minZ`, `maxZ` and `eqZ`: the lesser and the greater of two integers, and the test whether two integers are equal.
+--   min-ud, max-ud: `minZ a b` (`maxZ a b`) as an equation between naturals, to be passed to `omega`
+--   min-size, max-size: if |a| and |b| are at most m, so is the size of the lesser (the greater)
+--   eqZ-true, eqZ-false: if the test says true, the integers are equal; if it says false, they are not
+--   eqZ-yes, eqZ-no: the test says true of equal integers, false of different ones
+--   bits-eqZ: a comparison of the 64 bits of two signed numbers gives what `eqZ` gives
+--   le-test: if a <= b holds, the test `leZ a b` is true
 -- Assumes nothing.
 use mathlib.Core.Path.{_≡_, refl, ap}
 use mathlib.Core.Bool.{Bool, true, false, cond}
@@ -70,7 +72,7 @@ eqZ-no a b f = go (eqZ a b) refl
     go true h = absurd (f (eqZ-true a b h))
     go false h = h
 
--- `==` of two signed numbers tests their bits
+-- The machine evaluates `==` on two signed numbers by comparing their bits.
 pub bits-eqZ : {a b : ℤ} → SFits w64 a → SFits w64 b → eqb (ofZ w64 a) (ofZ w64 b) ≡ eqZ a b
 bits-eqZ {a} {b} f g = go (eqZ a b) refl
   where

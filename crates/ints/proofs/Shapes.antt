@@ -1,7 +1,12 @@
--- The rules of Linear at the shapes x, x + y and x - y, so that a sum of two needs no entry of its own in `omega`'s list.
--- A name ends in the shapes of the two sides: p a sum, m a difference, v any term. Only shapes that some proof uses stand here.
---   of-≡-.., of-≤-.., leZ-true-.., leZ-false-..: what a hypothesis says; to-≡-.., to-≤-.., to-fits-..: what a goal asks
---   zsum: all the rules. `omega` applies the first one that fits a hypothesis, so the shapes stand before the plain rules
+-- The rules of Linear for sums and differences. With them `omega` needs no `plus` or `minus` fact for a sum or difference of two terms.
+-- The ending of a name gives the shapes of the two sides: p is a sum, m a difference, v any term. Only shapes in use are here.
+--   of-≡-mv, of-≡-pp, of-≡-pv, of-≡-vm, of-≡-vp: turn an equation of integers into one of naturals
+--   of-≤-pp, of-≤-pv, of-≤-vp: turn a hypothesis `≤` on integers into one on naturals
+--   leZ-true-pv, leZ-true-vp, leZ-false-pv, leZ-false-vp: turn the result of the test `leZ` into a fact on naturals
+--   to-≡-mv, to-≡-pp, to-≡-pv, to-≡-vm, to-≡-vp: reduce a goal `≡` on integers to one on naturals
+--   to-≤-pp, to-≤-pv, to-≤-vp: reduce a goal `≤` on integers to one on naturals
+--   to-fits-m, to-fits-p: reduce the goal that a difference (a sum) fits into an i64 to one on naturals
+--   zsum: these rules, then `zlin`; `omega` applies the first rule that matches, so the special shapes come before the plain rules
 -- Assumes nothing.
 use mathlib.Core.Path.{_≡_}
 use mathlib.Core.Bool.{true, false}

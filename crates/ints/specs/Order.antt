@@ -1,19 +1,19 @@
--- The lesser and the greater of two integers, and the test of their equality.
+-- Minimum, maximum and equality of integers (SCOPE, The row and its excess).
 -- Assumes nothing.
 use mathlib.Core.Bool.{Bool, false, cond}
 use lib.Dec.{eqb}
 use lib.IntN.{ℤ, pos, negsuc}
 use lib.Signed.{ltZ}
 
--- the lesser of two
+-- The smaller of two integers.
 unfoldable pub minZ : ℤ → ℤ → ℤ
 minZ a b = cond (ltZ b a) b a
 
--- the greater of two
+-- The greater of two integers.
 unfoldable pub maxZ : ℤ → ℤ → ℤ
 maxZ a b = cond (ltZ a b) b a
 
--- whether two are the same
+-- Tests whether two integers are equal.
 unfoldable pub eqZ : ℤ → ℤ → Bool
 eqZ (pos a) (pos b) = eqb a b
 eqZ (pos a) (negsuc b) = false

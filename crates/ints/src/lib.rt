@@ -1,5 +1,6 @@
-// The lesser and the greater of two signed numbers. What the crate is for are the laws of ℤ in its proofs/, by which
-// `omega` settles linear facts on signed numbers in every crate above.
+// The lesser and the greater of two signed numbers. Neither function refuses anything.
+//
+// The crate exists for the laws in its proofs/: with them `omega` proves linear facts about signed numbers in every crate above.
 ghost use mathlib.Core.Path.{_≡_};
 ghost use Rattle.ints.specs.Order.{minZ, maxZ};
 

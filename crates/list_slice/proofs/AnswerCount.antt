@@ -1,7 +1,9 @@
--- How many answers a listing gives, over any nodes: each handle lies beyond the one before it; then a refusal at most, and nothing.
---   answers-few: at most n + 2 answers; answers-enough: room for n + 2 is room for all
---   count-small: the count of `list` is small
---   room-cut: what is made of the answers is the same where the room is cut to n + 2 or more
+-- The number of answers of a listing, over any nodes. Each handle is further on than the one before. After the handles come at most one
+-- refusal and one `nothing`.
+--   answers-few: a listing has at most n + 2 answers
+--   answers-enough: any two limits of n + 2 or more steps give the same answers
+--   count-small: the count that `list` answers is at most 2^32 + 2
+--   room-cut: a room cut to n + 2 or more gives the same answers
 -- Assumes nothing.
 use mathlib.Core.Path.{_≡_, refl, ap}
 use mathlib.Core.Bool.{Bool}
@@ -11,6 +13,7 @@ use native.Mathlib.Omega.{arith}
 use native.Mathlib.Decide.{decLt}
 use lib.IntN.{ℤ}
 use lib.ListN.{length}
+use Rattle.row.specs.Limits.{maxBits}
 use Rattle.row.specs.Answer.{Answer, at, nothing, refused}
 use Rattle.bp_spec.proofs.HandleAnswers.{passed-fine}
 use Rattle.list_slice.specs.Seek.{sought, heldAfter, Below}
@@ -19,11 +22,11 @@ use Rattle.list_slice.proofs.HeldRange.{Only, left, HandlesLeft, sought
 use Rattle.list_slice.specs.WholeListing.{answers, unlessRefused, answersOf, countOf}
 
 module _ (rising : Bool) (ws : List ℕ) (n : ℕ) (s : List ℤ) (B : ℕ) where
-  -- what is held after an answer
+  -- What the listing holds after it has answered.
   abbrev next : Answer → Answer
   next = heldAfter rising ws n s B
 
-  -- where fewer than f handles are left, f + 2 answers at most
+  -- If the listing can still meet fewer than f handles, it has at most f + 2 answers.
   answers-few : (c f : ℕ) (a : Answer) → Only (HandlesLeft rising n f) a → length (answers next c a) ≤ f + 2
   unfolding answers
   answers-few zero f a w = omega arith
@@ -45,11 +48,11 @@ module _ (rising : Bool) (ws : List ℕ) (n : ℕ) (s : List ℤ) (B : ℕ) wher
   answers-enough (suc (suc c)) (suc (suc d)) f (refused k) w p q = refl
 
   module _ (v : ℕ) where
-    -- a making that is not refused says that the row is short
-    short : (a : Answer) → sought rising ws n s B v ≡ a → Unrefused a → n ≤ 4294967296
+    -- If the constructor is not refused, n is at most 2^32.
+    short : (a : Answer) → sought rising ws n s B v ≡ a → Unrefused a → n ≤ maxBits
     short a e u = passed-fine _ _ _ _ _ (sought-passed ws n s B v rising (rw e u)) .short
 
-    pub count-small : (c : ℕ) → Below 4294967299 (countOf rising ws n s B v c)
+    pub count-small : (c : ℕ) → Below (maxBits + 3) (countOf rising ws n s B v c)
     unfolding countOf
     count-small c = go (sought rising ws n s B v) refl
       where
@@ -57,7 +60,7 @@ module _ (rising : Bool) (ws : List ℕ) (n : ℕ) (s : List ℤ) (B : ℕ) wher
         l = answers-few c n (sought rising ws n s B v) (sought-within rising ws n s B v)
 
         go : (a : Answer) → sought rising ws n s B v ≡ a
-            → Below 4294967299 (unlessRefused a (at (length (answersOf rising ws n s B v c))) refused)
+            → Below (maxBits + 3) (unlessRefused a (at (length (answersOf rising ws n s B v c))) refused)
         go (at u) e = omega (arith, l, short (at u) e tt)
         go nothing e = omega (arith, l, short nothing e tt)
         go (refused k) e = tt
@@ -68,7 +71,7 @@ module _ (rising : Bool) (ws : List ℕ) (n : ℕ) (s : List ℤ) (B : ℕ) wher
       | no l ↦ (let e : min c m ≡ c = omega arith in ap (answersOf rising ws n s B v) e)
     ]
 
-    pub room-cut : {A : Type 0} (f : List Answer → A) (g : ℕ → A) (c m : ℕ) → (n ≤ 4294967296 → n + 2 ≤ m)
+    pub room-cut : {A : Type 0} (f : List Answer → A) (g : ℕ → A) (c m : ℕ) → (n ≤ maxBits → n + 2 ≤ m)
         → unlessRefused (sought rising ws n s B v) (f (answersOf rising ws n s B v (min c m))) g
         ≡ unlessRefused (sought rising ws n s B v) (f (answersOf rising ws n s B v c)) g
     room-cut f g c m h = go (sought rising ws n s B v) refl

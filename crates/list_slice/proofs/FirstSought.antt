@@ -1,7 +1,9 @@
--- What a listing seeks first, case by case.
---   tests-row: the tests of a call without nodes
---   sought-refused, sought-first: the making refuses; it seeks the first child
---   starts-refused, starts-passed: what a gate says of the answer; sought-passed: no refusal says that the tests are passed
+-- What the constructor of a listing finds, case by case.
+--   tests-row: refusals 1 to 5 include the tests of a call without nodes
+--   sought-refused: if a test refuses, the constructor finds that refusal
+--   sought-first: if the tests pass, `children` finds the answer of `first_child`
+--   sought-passed: if the constructor finds no refusal, the tests passed
+--   starts-refused, starts-passed: what the gate of a `Start` says about the answer found
 -- Assumes nothing.
 use mathlib.Core.Path.{_≡_, refl, sym}
 use mathlib.Core.Bool.{Bool, true}
@@ -22,18 +24,18 @@ use Rattle.bp_spec.specs.HandleCalls.{nodeAnswer}
 use Rattle.list_slice.specs.declared.seek.Start.{Start}
 use Rattle.list_slice.specs.Seek.{sought, making, begun, Starts}
 
--- the answer is no refusal
+-- The answer is not a refusal.
 abbrev pub Unrefused : Answer → Type 0
 Unrefused (at v) = Unit {0}
 Unrefused nothing = Unit {0}
 Unrefused (refused k) = ⊥
 
--- refusals 1 to 5
+-- Refusals 1 to 5.
 abbrev pub tests : List ℕ → ℕ → List ℤ → ℕ → ℕ → Gate
 tests ws n s B v = andThen (nodesGate (length ws) n (length s) B) (handleGate ws n v)
 
 module _ (ws : List ℕ) (n : ℕ) (s : List ℤ) (B v : ℕ) where
-  -- once they are passed, so are those of a call without nodes
+  -- If refusals 1 to 5 pass, so do the tests of a call without nodes.
   pub tests-row : tests ws n s B v ≡ Pass → andThen (rowGate (length ws) n) (handleGate ws n v) ≡ Pass
   unfolding nodesGate
   tests-row e =

@@ -1,6 +1,8 @@
--- What the calls that a listing goes by answer by definition: an open bit of the row or nothing, never a refusal.
---   bwd-opens: what open answers is an open bit, wherever it is asked
---   start-handle, next-handle: so are the first and the last child, and the siblings
+-- By definition the calls that a listing uses answer an open bit of the row or nothing, never a refusal.
+--   HandleOrNothing: the answer is an open bit of the row, or nothing
+--   bwd-opens: a backward search for -1 answers an open bit, from every position
+--   start-handle: the first child and the last child are open bits or nothing
+--   next-handle: the two siblings are open bits or nothing
 -- Assumes nothing.
 use mathlib.Core.Path.{_≡_, refl}
 use mathlib.Core.Bool.{Bool, true, false, cond, _&&_}
@@ -29,16 +31,17 @@ use Rattle.bp_spec.specs.SearchPair.{defined, onward}
 use Rattle.bp_spec.specs.SiblingCalls.{lastChild, nextSibling, previousSibling}
 use Rattle.list_slice.specs.Seek.{startCall, nextCall}
 
--- an open bit of the row, or nothing
+-- The answer is an open bit of the row, or nothing.
 abbrev pub HandleOrNothing : List ℕ → ℕ → Answer → Type 0
 HandleOrNothing ws n (at v) = opens ws n v ≡ true
 HandleOrNothing ws n nothing = Unit {0}
 HandleOrNothing ws n (refused k) = ⊥
 
 module _ (ws : List ℕ) (n : ℕ) where
-  -- ---- a search backward for -1
+  -- ---- a backward search for -1
   module _ (i j : ℕ) (h : IsBwd ws n i (negsuc 0) (at j)) where
-    -- from an excess below that of j on, it stays below: no position after j has it
+    -- No position k between j and i has an excess below that of j. From k the excess would have to rise to E(j) + 1 at i, and so pass E(j) at a
+    -- later position, which would be the answer instead of j.
     stays : (d k : ℕ) → d + k ≡ i → j < k → E ws k <ℤ E ws j → ⊥
     stays zero k e l b = let q : k ≡ i = omega arith in let c = rw q at b in omega (zsum, h .0 .2)
     stays (suc d) k e l b = elim (decLt (suc k) i) [
@@ -80,7 +83,7 @@ module _ (ws : List ℕ) (n : ℕ) where
   where-handle true a f = f refl
   where-handle false a f = tt
 
-  -- after a close
+  -- If the second step gives an open bit or nothing, so does the call that starts with `close`.
   close-handle : (v : ℕ) (next : ℕ → Answer) → ((c : ℕ) → HandleOrNothing ws n (next c)) → HandleOrNothing ws n (onward (fwd ws n v (negsuc 0)) next)
   close-handle v next f = go (fwd ws n v (negsuc 0)) refl
     where

@@ -1,9 +1,11 @@
--- Where the handles lie that a listing holds, over any nodes: in the row, and each beyond the one before it.
---   Only: a position that is answered, if one is, has a property; only-more: then it has another one
---   Within: in the row, with fewer than f handles left beyond it on the listing's way
---   start-on, next-on: of the calls that a listing goes by
---   sought-within, after-within: of what is held first, and of what is held after a handle
---   sought-below, after-below: so it lies in the row
+-- Where the handles of a listing are, over any nodes: below n, and each one further on than the one before.
+--   Only: a position that is answered has a property; nothing and refusals always satisfy this
+--   only-more: a property that implies another one may be replaced by it
+--   left: the number of positions from u on in the direction of the listing
+--   HandlesLeft: the position is below n, and fewer than f positions are left from it on
+--   start-on, next-on: the calls that find the first handle and the next one
+--   sought-within, after-within: what the listing holds at first, and after a handle
+--   sought-below, after-below: both are below n
 -- Assumes nothing.
 use mathlib.Core.Path.{_≡_, refl}
 use mathlib.Core.Bool.{Bool, true, false, cond, _&&_}
@@ -31,7 +33,7 @@ use Rattle.bp_spec.specs.SiblingCalls.{lastChild, nextSibling, previousSibling}
 use Rattle.list_slice.specs.Seek.{startCall, nextCall, sought, heldAfter, Below}
 use Rattle.list_slice.proofs.FirstSought.{tests}
 
--- ---- a property of a position, if one is answered
+-- ---- a property of the position that is answered
 abbrev pub Only : (ℕ → Type 0) → Answer → Type 0
 Only P (at j) = P j
 Only P nothing = Unit {0}
@@ -61,7 +63,7 @@ module _ (P : ℕ → Type 0) where
   only-where true a f = f refl
   only-where false a f = tt
 
--- ---- the handles that may be left, from u on
+-- ---- the positions left from u on, in the direction of the listing
 abbrev pub left : Bool → ℕ → ℕ → ℕ
 left true n u = n - u
 left false n u = u + 1
@@ -72,7 +74,7 @@ HandlesLeft rising n f u = (u < n) × (left rising n u < f)
 -- ---- the calls
 module _ (ws : List ℕ) (n : ℕ) where
   module _ (s : List ℤ) (B : ℕ) (pB : 0 < B) (v : ℕ) (l : v < n) where
-    -- the searches that the calls make
+    -- The searches by the walk, which the calls make.
     abbrev f : Searches
     f = walked ws n s B
 
@@ -96,9 +98,9 @@ module _ (ws : List ℕ) (n : ℕ) where
         (λ t. only (HandlesLeft false n (left false n v)) (openOf f (v - 1))
         (λ u h. let q = walk-before ws n s B pB (v - 1) (negsuc 0) u h in (omega arith, omega arith)))
 
--- ---- what is held
+-- ---- what the listing holds
 module _ (rising : Bool) (ws : List ℕ) (n : ℕ) (s : List ℤ) (B : ℕ) where
-  -- once the tests are passed
+  -- A property of a call's answer holds behind the tests too.
   node-on : (P : ℕ → Type 0) (call : List ℕ → ℕ → Searches → ℕ → Answer) (v : ℕ)
       → (0 < B → v < n → Only P (call ws n (walked ws n s B) v)) → Only P (nodeAnswer call ws n s B v)
   unfolding nodeAnswer

@@ -1,9 +1,10 @@
--- The lent slice as the answers of the steps are written to it.
---   below-small: an answer that lies in the row is small
---   answers-more, answers-last: a step's answer, and what comes after it
---   Writing: the first i answers are written, and h is held; writing-start, writing-step: none yet, and one more
---   written-full, written-ended: all of it, where the slice is full and where nothing was answered
---   list-refused, list-passed: what the call answers and leaves
+-- The output slice while the answers of the steps are written to it.
+--   below-small: an answer below n is in the range of the wire
+--   answers-more, answers-last: the answers from h on, if h is not `nothing`, and if it is
+--   Writing: the first i answers are written, and the listing holds h
+--   writing-start, writing-step: before the first answer, and after one more
+--   written-full, written-ended: all answers are written if the slice is full, and if the last one was `nothing`
+--   list-refused, list-passed: the promise of `list` if the constructor is refused, and if it succeeds
 -- Assumes nothing.
 use mathlib.Core.Path.{_≡_, refl, sym, ap, _∙_}
 use mathlib.Core.Bool.{Bool, true, false}
@@ -15,19 +16,20 @@ use native.Mathlib.Numerals.{add-one}
 use lib.IntN.{ℤ}
 use lib.ListN.{length, take, drop, set, length-set, take-append-drop, length-map}
 use lib.Seq.{length-take-le, take-suc-set, drop-drop, drop-set-lt}
+use Rattle.row.specs.Limits.{maxBits}
 use Rattle.row.specs.Answer.{Answer, at, nothing, refused}
 use Rattle.wire.specs.Answer.{wireOf, Small}
 use Rattle.list_slice.specs.Seek.{sought, heldAfter, Below}
 use Rattle.list_slice.proofs.FirstSought.{Unrefused}
 use Rattle.list_slice.specs.WholeListing.{isNothing, answers, Wrote, countOf, leftOf}
 
-pub below-small : (n : ℕ) (a : Answer) → n ≤ 4294967296 → Below n a → Small a
+pub below-small : (n : ℕ) (a : Answer) → n ≤ maxBits → Below n a → Small a
 below-small n (at v) l b = omega arith
 below-small n nothing l b = tt
 below-small n (refused k) l b = tt
 
 module _ (next : Answer → Answer) where
-  -- the answers as numbers
+  -- The answers as numbers of the wire.
   abbrev numbers : ℕ → Answer → List ℤ
   numbers c a = map wireOf (answers next c a)
 
@@ -44,7 +46,7 @@ module _ (next : Answer → Answer) where
   answers-last c (refused k) e = let z : _≡_ {A = ℕ} 0 1 = cc in absurd (omega arith)
 
   module _ (a : Answer) (out₀ : List ℤ) where
-    -- all that is to be written
+    -- All numbers that are to be written.
     abbrev all : List ℤ
     all = numbers (length out₀) a
 
@@ -57,7 +59,7 @@ module _ (next : Answer → Answer) where
     pub writing-start : Writing out₀ a 0
     writing-start = record { room = omega arith; same = refl; front = rw sub-zero; back = refl }
 
-    -- the slice and the count are right once the first i numbers are all
+    -- If the first i entries are exactly the numbers to be written, the slice and the count are right.
     written : (out : List ℤ) (i : ℕ) → i ≤ length out → take i out ≡ all → drop i out ≡ drop i out₀ → Wrote next a out₀ out i
     written out i r f b =
         let n : i ≡ length all = sym (length-take-le i out r) ∙ ap length f in
@@ -77,14 +79,14 @@ module _ (next : Answer → Answer) where
         abbrev left : ℕ
         left = length out₀ - (i + 1)
 
-        -- the numbers still to come
+        -- The count of numbers still to come.
         more : length out₀ - i ≡ suc left
         more = omega arith
 
         in-out : i < length out
         in-out = let s = w .same in omega arith
 
-        -- the front, one number longer
+        -- The front of the slice, one number longer.
         longer : (l : List ℤ) → take (i + 1) (set out i (wireOf h)) ++ l ≡ take i out ++ wireOf h ∷ l
         longer l = rw (add-one, take-suc-set out i (wireOf h) in-out) (append-assoc (take i out) (wireOf h ∷ []) l)
 
@@ -106,7 +108,7 @@ module _ (next : Answer → Answer) where
 
 -- ---- the call
 module _ (rising : Bool) (ws : List ℕ) (n : ℕ) (s : List ℤ) (B v : ℕ) (out : List ℤ) where
-  -- what it promises of its answer a and of the slice t that it leaves
+  -- The promise of `list` about its answer a and the slice t that it leaves.
   abbrev pub ListPromise : Answer → List ℤ → Type 0
   ListPromise a t = (a ≡ countOf rising ws n s B v (length out)) × (t ≡ leftOf rising ws n s B v out)
 

@@ -1,4 +1,4 @@
--- A whole listing at once: what its steps answer, one after another, and what is written of it.
+-- SCOPE, Listing children: `list`, which writes the answers of a whole listing to a slice.
 -- Assumes nothing.
 use mathlib.Core.Path.{_≡_}
 use mathlib.Core.Bool.{Bool, true, false}
@@ -12,52 +12,52 @@ use Rattle.list_slice.specs.Seek.{sought, heldAfter}
 use Rattle.list_slice.specs.declared.write.Listed.{Listed}
 use Rattle.list_slice.specs.declared.write.Listed.the-variants.{Count, Refused}
 
--- the answer is nothing
+-- Tests whether the answer is nothing.
 abbrev pub isNothing : Answer → Bool
 isNothing (at v) = false
 isNothing nothing = true
 isNothing (refused k) = false
 
--- after nothing no further step is asked
+-- The answers l that follow an answer; none follow `nothing`.
 abbrev pub unlessEnded : Answer → List Answer → List Answer
 unlessEnded (at v) l = l
 unlessEnded nothing l = []
 unlessEnded (refused k) l = l
 
--- what the steps answer, where a is held and `next` says what is held after each: up to and with the first nothing, c at most
+-- The answers of the steps, at most c, up to and with the first `nothing`: the listing holds a, and `next` gives what it holds after each.
 unfoldable pub answers : (Answer → Answer) → ℕ → Answer → List Answer
 answers next zero a = []
 answers next (suc c) a = a ∷ unlessEnded a (answers next c (next a))
 
--- the front of s is overwritten by l, the rest stays
+-- The slice s with its front overwritten by l and the rest unchanged.
 abbrev pub overlaid : List ℤ → List ℤ → List ℤ
 overlaid l s = l ++ drop (length l) s
 
--- what the steps answer from a on, as numbers, is written to the slice s, which is then t: i answers in all
+-- The answers from a on are written to the slice s, as numbers of the wire; the slice then is t, and i answers were written.
 pub record Wrote (next : Answer → Answer) (a : Answer) (s t : List ℤ) (i : ℕ) : Type 0 where
   pub count : i ≡ length (answers next (length s) a)
   pub left : t ≡ overlaid (map wireOf (answers next (length s) a)) s
 
--- a value where no refusal was met, another where one was
+-- The value x if the answer is no refusal, otherwise f of the refusal number.
 abbrev pub unlessRefused : {A : Type 0} → Answer → A → (ℕ → A) → A
 unlessRefused (at v) x f = x
 unlessRefused nothing x f = x
 unlessRefused (refused k) x f = f k
 
--- the answers of the listing of v, c steps at most
+-- The answers of the listing of v, at most c of them.
 abbrev pub answersOf : Bool → List ℕ → ℕ → List ℤ → ℕ → ℕ → ℕ → List Answer
 answersOf rising ws n s B v c = answers (heldAfter rising ws n s B) c (sought rising ws n s B v)
 
--- what is answered where there is room for c: how many answers are written, or the refusal that the making met
+-- What `list` answers if the slice has room for c: the number of answers written, or the refusal of the constructor.
 unfoldable pub countOf : Bool → List ℕ → ℕ → List ℤ → ℕ → ℕ → ℕ → Answer
 countOf rising ws n s B v c = unlessRefused (sought rising ws n s B v) (at (length (answersOf rising ws n s B v c))) refused
 
--- what is then in the lent slice: the answers in their order, followed by what stood past them; a refused making leaves all
+-- The slice after `list`: the answers in order, then the old entries; all old entries if the constructor is refused.
 unfoldable pub leftOf : Bool → List ℕ → ℕ → List ℤ → ℕ → ℕ → List ℤ → List ℤ
 leftOf rising ws n s B v out =
     unlessRefused (sought rising ws n s B v) (overlaid (map wireOf (answersOf rising ws n s B v (length out))) out) (λ _. out)
 
--- the count or the refusal, on paper
+-- The specification answer of a `Listed`.
 abbrev pub paperListed : Listed → Answer
 paperListed (Count c) = at c
 paperListed (Refused k) = refused (numberOf k)

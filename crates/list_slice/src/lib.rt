@@ -1,6 +1,6 @@
 // Listings of children over slices and numbers: what a listing holds at first and after each step, and a whole listing written to a slice.
 //
-// `seek` has the steps that the struct of `list_struct` is built on. `write` serves callers that keep no listing.
+// The struct of the crate list_struct is built on `seek`. `write` serves callers that keep no listing.
 mod seek;
 mod write;
 

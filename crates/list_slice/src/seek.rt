@@ -1,6 +1,7 @@
-// What a listing of children holds: first, and after each step. On slices and numbers; the calls test whatever they are lent. The arguments
-// stand in the order of a listing's fields. It stands apart because two crates rest on it and need nothing of one another: `listing`, which
-// keeps a listing and steps it, and `whole`, which writes all that the steps answer at once.
+// What a listing of children holds at first and after each step, computed from slices and numbers.
+//
+// The public calls that these functions use test all their arguments, so any values are safe. The parameters have the order of the fields of
+// a listing. `list_struct`, which keeps a listing and steps it, and `write`, which writes all answers at once, both use these functions.
 ghost use mathlib.Core.Path.{_≡_};
 ghost use mathlib.Core.Bool.{true, false};
 ghost use Rattle.row.specs.Answer.{paperFound};
@@ -8,13 +9,13 @@ ghost use Rattle.list_slice.specs.Seek.{sought, heldAfter, Starts};
 use row::Found;
 use row::Gate;
 
-// What the making says, and what the listing then holds.
+// The answer of a listing's constructor, and what the listing then holds.
 pub struct Start {
     pub gate: Gate,
     pub held: Found,
 }
 
-// A refusal met in seeking the first handle is the making's, and the listing has then ended.
+// Starts a listing with the answer of the search for its first handle. A refusal is the constructor's answer, and the listing has ended.
 fn opening(found: Found) -> Start
     ensures { λ s. ⌜ Starts (paperFound found) s ⌝ }
 {
@@ -34,7 +35,8 @@ fn opening(found: Found) -> Start
     }
 }
 
-// first_child, after refusals 1 to 5: the nodes are lent to the listing, so they are tested though first_child reads none.
+// Returns the first child of v after refusals 1 to 5. The node buffer is tested although `first_child` reads none of it, because the
+// later steps read it.
 fn first_child(words: &[u64], n: usize, nodes: &[i64], block: usize, v: usize) -> Found
     ensures { λ a. ⌜ paperFound a ≡ sought true (now (words .entry)) n (now (nodes .entry)) block v ⌝ }
 {
@@ -44,21 +46,21 @@ fn first_child(words: &[u64], n: usize, nodes: &[i64], block: usize, v: usize) -
     }
 }
 
-// Where `children` starts.
+// Starts the listing `children(v)`.
 pub fn first(words: &[u64], n: usize, nodes: &[i64], block: usize, v: usize) -> Start
     ensures { λ s. ⌜ Starts (sought true (now (words .entry)) n (now (nodes .entry)) block v) s ⌝ }
 {
     opening(first_child(words, n, nodes, block, v))
 }
 
-// Where `rev_children` starts.
+// Starts the listing `rev_children(v)`.
 pub fn last(words: &[u64], n: usize, nodes: &[i64], block: usize, v: usize) -> Start
     ensures { λ s. ⌜ Starts (sought false (now (words .entry)) n (now (nodes .entry)) block v) s ⌝ }
 {
     opening(bp_family::last_child(words, n, nodes, block, v))
 }
 
-// What a listing holds once it has answered what it held.
+// Returns what a listing holds after it has answered `held`.
 pub fn after(
     words: &[u64],
     n: usize,

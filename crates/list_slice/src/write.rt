@@ -1,9 +1,11 @@
-// A whole listing at once, for callers who keep no listing: what its steps answer, written in their order as the C functions number answers.
-// A making that is refused leaves the lent slice as it was. It stands on `seek`, beside `listing`: it keeps no borrowed view, so no
-// function here is walked by hand, and neither of the two needs the other.
+// Writes a whole listing with one call, for callers that keep no listing.
+//
+// The answers of the steps are written in order, as the C functions number them. A refused constructor leaves the slice unchanged.
+// No function here takes a struct with references, so none needs the hand-written proofs of the crate list_struct.
 ghost use mathlib.Core.Path.{_≡_};
 ghost use Prim.Native.Nat.{_≤_};
 ghost use lib.ListN.{length};
+ghost use Rattle.row.specs.Limits.{maxBits};
 ghost use Rattle.row.specs.Answer.{paperFound};
 ghost use Rattle.list_slice.specs.Seek.{sought, heldAfter, Starts, Below};
 ghost use Rattle.list_slice.specs.WholeListing.{isNothing, Wrote, countOf, leftOf, paperListed};
@@ -12,11 +14,13 @@ use row::Found;
 use row::Gate;
 use row::Refusal;
 
+// The answer of `list`: the number of answers written, or the refusal of the constructor.
 pub enum Listed {
     Count(usize),
     Refused(Refusal),
 }
 
+// Tests whether the answer is nothing.
 fn is_nothing(found: Found) -> bool
     ensures { λ r. ⌜ r ≡ isNothing (paperFound found) ⌝ }
 {
@@ -27,7 +31,7 @@ fn is_nothing(found: Found) -> bool
     }
 }
 
-// Where a listing starts that goes either way.
+// Starts a listing in the direction that `rising` says.
 fn start(words: &[u64], n: usize, nodes: &[i64], block: usize, rising: bool, v: usize) -> Start
     ensures { λ s. ⌜ Starts (sought rising (now (words .entry)) n (now (nodes .entry)) block v) s ⌝ }
 {
@@ -38,7 +42,7 @@ fn start(words: &[u64], n: usize, nodes: &[i64], block: usize, rising: bool, v: 
     }
 }
 
-// Writes what the steps answer from `first` on, up to and with the first nothing or until `out` is full; how many it wrote.
+// Writes the answers of the steps from `first` on, up to and with the first `nothing`, or until `out` is full. Returns how many it wrote.
 fn write_steps(
     words: &[u64],
     n: usize,
@@ -48,7 +52,7 @@ fn write_steps(
     first: Found,
     out: &mut [i64],
 ) -> usize
-    requires { ⌜ (n ≤ 4294967296) × Below n (paperFound first) ⌝ }
+    requires { ⌜ (n ≤ maxBits) × Below n (paperFound first) ⌝ }
     ensures { λ i. ⌜ Wrote (heldAfter rising (now (words .entry)) n (now (nodes .entry)) block) (paperFound first) (now (out .entry)) (now (out .exit)) i ⌝ }
 {
     let mut held = first;
@@ -64,7 +68,7 @@ fn write_steps(
     i
 }
 
-// The children of the node v, from the first or from the last: how many answers are written, or why no listing is made.
+// Writes the children of v to `out`, rising or falling. Returns the number of answers written, or the refusal of the constructor.
 pub fn list(
     words: &[u64],
     n: usize,

@@ -1,7 +1,8 @@
--- A listing as it is made, of what a function is passed and of what the listing starts with, over the way that it goes.
---   made-says: what the making is on paper
---   listing-is, made-is: the listing and the making are values of their types
---   twice: what the parameters own is had twice, for they are Copy; made-own: what the making owns
+-- The listing that a constructor returns, made from the arguments and the `Start`, for both directions.
+--   made-says: the specification of the result
+--   listing-is, made-is: the listing and the result are values of their types
+--   twice: what the parameters own is available twice, because they are Copy
+--   made-own: what the result owns
 -- Assumes nothing.
 use mathlib.Core.Path.{_≡_, refl}
 use mathlib.Core.Bool.{Bool}
@@ -42,11 +43,11 @@ use Rattle.list_struct.proofs.view.Children.Laws as T′
 use Rattle.list_struct.proofs.view.Made as R
 use Rattle.list_struct.proofs.view.Made.Laws as R′
 
--- what the function is passed: words, n, nodes, block, v
+-- The arguments of a constructor: words, n, nodes, block, v.
 abbrev pub Args : Type 0
 Args = RefT (List ℕ) × (ℕ × (RefT (List ℤ) × (ℕ × (ℕ × Unit {0}))))
 
--- the types, and the machine values
+-- The types and the machine values of the arguments, and what they own.
 abbrev pub kinds : Lft → List RattleType
 kinds κ = ShrSlice (named 0) κ u64 ∷ usize ∷ ShrSlice (named 0) κ i64 ∷ usize ∷ usize ∷ []
 
@@ -57,22 +58,22 @@ machine κ x =
 abbrev pub Owns : Lft → Args → Fml
 Owns κ x = owns (kinds κ) x (machine κ x)
 
--- each parameter's relation
+-- The arguments are related to their machine values.
 abbrev pub Passed : Lft → Args → Type 0
 Passed κ x = Are (kinds κ) (Ises (kinds κ)) x (machine κ x)
 
--- the lifetime in a signature
+-- The lifetime in the signature.
 abbrev pub signed : Lft → NamedLft
 signed κ = namedLft 1 0 tt (κ, tt)
 
--- what is made of x and s: the listing, and the result
+-- The listing and the result that the constructor makes from the arguments x and the `Start` s.
 abbrev pub listing : Bool → Args → Start → Children
 listing rising x s = record { words = x .0; n = x .1 .0; nodes = x .1 .1 .0; block = x .1 .1 .1 .0; rising = rising; held = s .held }
 
 abbrev pub result : Bool → Args → Start → Made
 result rising x s = record { gate = s .gate; listing = listing rising x s }
 
--- what the making seeks
+-- The answer that the constructor finds.
 abbrev pub soughtBy : Bool → Args → Answer
 soughtBy rising x = sought rising (now (x .0)) (x .1 .0) (now (x .1 .1 .0)) (x .1 .1 .1 .0) (x .1 .1 .1 .1 .0)
 
@@ -111,14 +112,14 @@ module _ {M : Type 1} (𝓤 : URA M) (H : Heap 𝓤) (A : Atoms 𝓤) (W : Given
       let w = LL.val S.the-type S′.the-laws s in
       qed W (‵ (Own s) ∷ ‵ (Owns κ x) ∷ []) ∵
       use1 W (given (w ∷ [] ≡ w ∷ []) (‵ (all-own (S.the-type .parts) S′.the-laws vs))) (own-open 𝓤 H A W S.the-type S′.the-laws vs w) $ learn ! (λ _.
-      -- [the gate and what is held; what the parameters own]
+      -- Context: the gate and the held answer; what the parameters own.
       fsplit ! $ move ! (2 ∷ []) $ fsplit ! $ move ! (1 ∷ []) $ fsplit ! $ move ! (1 ∷ []) $ fsplit ! $ move ! (1 ∷ []) $ fsplit ! $
       move ! (1 ∷ []) $ drop ! $
-      -- [block; nodes; n; words; the gate; what is held]
+      -- Context: block; nodes; n; words; the gate; the held answer.
       move ! (5 ∷ []) $ owned ! bool (Is bool) (bool-makes 𝓤 H A W) rising _ refl $ fjoin ! $
       move ! (1 ∷ 0 ∷ []) $ fjoin ! $ move ! (1 ∷ 0 ∷ []) $ fjoin ! $ move ! (1 ∷ 0 ∷ []) $ fjoin ! $ move ! (1 ∷ 0 ∷ []) $ fjoin ! $
       use1 W (‵ (T.the-row α .own (listing rising x s) (LL.val (T.the-type α) (T′.the-laws α) (listing rising x s) ∷ [])))
       (own-shut 𝓤 H A W (T.the-type α) (T′.the-laws α) us) $
-      -- [the listing; the gate]
+      -- Context: the listing; the gate.
       nothing ! $ move ! (1 ∷ 0 ∷ []) $ fjoin ! $ move ! (1 ∷ 0 ∷ []) $ fjoin ! $
       by ! (own-shut 𝓤 H A W (R.the-type α) (R′.the-laws α) (s .gate, (listing rising x s, tt))))

@@ -1,9 +1,11 @@
--- The making of a listing, over the way that it goes. `children` and `rev_children` have one code but for the function that they call and the
--- way that they write down. Their signature is one, and so is that of `first` and `last`, which they call.
---   code: their code; Seeks: the contract of the function that they call
---   makes: the code meets whatever holds of the making, where the function that it calls meets its contract
--- A walk of the MIR, by hand: the function is called on what is passed, and of its answer and what is passed the listing is made, in a local,
--- and then the result. What the parameters own is had twice, for the call and for the rest, and again at the exit. Assumes nothing.
+-- The constructors of a listing, for both directions. `children` and `rev_children` have the same code, except for the function that they call
+-- (`first` or `last`) and the direction that they store. They have the same signature, and so have `first` and `last`.
+--   code: the code of a constructor
+--   Seeks: the contract of the function that it calls
+--   makes: the code meets the contract of a constructor if the function that it calls meets its own
+-- The proof is written by hand over the MIR, statement by statement. The constructor calls its function with the arguments. From the answer it
+-- makes the listing in a local, and from the listing the result. What the parameters own is needed twice: for the call and for the result.
+-- Assumes nothing.
 use mathlib.Core.Path.{refl, ap}
 use mathlib.Core.Bool.{Bool, true, false}
 use mathlib.Core.List.{List, [], _∷_, map}
@@ -52,12 +54,12 @@ use Rattle.list_struct.proofs.view.Made as R
 use Rattle.list_struct.proofs.view.Made.Laws as R′
 use Rattle.list_struct.proofs.iter.children as children
 
--- the way, as the code writes it
+-- The direction as an operand of the code.
 abbrev way : Bool → Operand
 way true = opdTrue
 way false = opdFalse
 
--- a local, whole
+-- A whole local as an operand.
 abbrev its : ℕ → Operand
 its i = copy (place i [])
 
@@ -77,7 +79,7 @@ code f rising =
     }
 
 module _ {M : Type 1} {𝓤 : URA M} {H : Heap 𝓤} {A : Atoms 𝓤} {K : Type 0} {W : Given 𝓤 H A} {Γ : List (Item 𝓤)} where
-  -- a goal P ∗ Q, where Q asks nothing
+  -- To prove P ∗ Q it suffices to prove P if Q holds without any resource.
   adds : {P Q : SProp 𝓤} → K → ent 𝓤 (emp 𝓤) Q → Step K W Γ (prop P) Γ (prop (sep 𝓤 P Q))
   adds {P} {Q} t h = suffices t P (via 𝓤 (sep 𝓤 (emp 𝓤) P) (emp∗ 𝓤 P) (via 𝓤 (sep 𝓤 Q P) (monoL 𝓤 P h) (comm∗ 𝓤 Q P)))
 
@@ -98,14 +100,14 @@ stayed = (
 )
 
 module _ {M : Type 1} (𝓤 : URA M) (H : Heap 𝓤) (A : Atoms 𝓤) (rising : Bool) where
-  -- what the function that is called says, and its contract
+  -- The clauses of the function that is called, and its contract.
   abbrev seeking : Clauses 𝓤 callee.ended
   seeking κs x = record { ghost = Unit {0}; requires = λ _. emp 𝓤; ensures = λ _ s _. fact 𝓤 (Starts (soughtBy rising x) s) }
 
   abbrev pub Seeks : Contract 𝓤
   Seeks = tripleOf 𝓤 H A callee.signature (closing 𝓤 H A callee.ended seeking)
 
--- what is said of a making holds of what is made of a start
+-- The `ensures` of the constructor holds for the result that is made from the `Start` s.
 abbrev Holds : {M : Type 1} (𝓤 : URA M) (rising : Bool) → Clauses 𝓤 children.ended → Type 1
 Holds 𝓤 rising c =
     (κs : Lfts 1) (x : Args) (s : Start) (g : c κs x .ghost) (e : AtExit children.ended κs) → Starts (soughtBy rising x) s
@@ -113,11 +115,11 @@ Holds 𝓤 rising c =
 
 module _ {M : Type 1} (𝓤 : URA M) (H : Heap 𝓤) (A : Atoms 𝓤) (W : Given 𝓤 H A) (rising : Bool) (f : Name) (c : Clauses 𝓤 children.ended)
     (κ : Lft) (q : Share) (x : Args) (g : c (κ, tt) x .ghost) where
-  -- the lifetime of a local that holds a listing
+  -- The lifetime of a local that has a listing.
   abbrev ε : NamedLft
   ε = record { mir = erased; lft = κ }
 
-  -- the machine values of what is passed, of the start s, and of the result
+  -- The machine values of the arguments, of the `Start` s and of the result.
   abbrev vx : List Val
   vx = flat (kinds κ) (machine κ x)
 
@@ -133,7 +135,7 @@ module _ {M : Type 1} (𝓤 : URA M) (H : Heap 𝓤) (A : Atoms 𝓤) (W : Given
   abbrev Begins : SProp 𝓤
   Begins = onEntry 𝓤 H A children.signature (κ, tt) (q, tt) x (machine κ x)
 
-  -- the call: what it is passed, what it asks, and what is known of its answer
+  -- The call: its arguments, its precondition, and what is known about its answer.
   abbrev to : Seeks 𝓤 H A rising .Ghost
   to = ((both κ, halves q, tt, x, machine κ x), tt)
 
@@ -178,7 +180,7 @@ module _ {M : Type 1} (𝓤 : URA M) (H : Heap 𝓤) (A : Atoms 𝓤) (W : Given
         (and-then ! (copied ! 14 refl) (and-then ! (copied ! 12 refl) (and-then ! (copied ! 10 refl) (and-then ! (copied ! 8 refl)
         (and-then ! (copied ! 6 refl) (no-more !)))))) (λ u.
         answered ! tt κ q S.the-row u (Starts (soughtBy rising x)) Said said (λ s e is.
-        -- [the start; the token; what the parameters own; room for _7; …; room for _6; …; _5; …; _1; …; room for _0; …]
+        -- Context: the `Start`; the token; what the parameters own; room for _7; …; room for _6; …; _5; …; _1; …; room for _0; …
         let told = LL.tells S.the-type S′.the-laws s (u ∷ []) is in
         land ! (from ! (stop !)) (init ! 5 refl (LL.lawful S.the-type S′.the-laws 𝓤 H A W .typed s _ is .0)) $
         rewrite ! 0 (λ (us : List Val). ‵ (S.the-row .own s us)) told refl $

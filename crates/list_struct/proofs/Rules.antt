@@ -1,9 +1,10 @@
--- Rules for the walks of a listing's functions, beside the kit's own: what each of them repeats.
---   copied, field-of: an operand that is a local, and a field of one
---   sets, freed: an assignment to a local, and the end of one
---   halved, joined: a listing has one lifetime, and the functions that it calls have one for each slice: its token is halved for a call
---   answered: after that call, its answer with what is known of it, and the token whole
---   rests-on: a function that calls one other meets its contract, if its code does wherever that other meets its own
+-- Rules that the hand-written proofs of this crate share. They add to the rules of the kit.
+--   copied, field-of: an operand that is a local, or a field of a local
+--   sets, freed: an assignment to a local, and the end of a local
+--   halved, joined: a lifetime token split into two halves and put together again
+--   answered: after the call, the answer, what is known about it, and the whole token
+--   rests-on: a function meets its contract if its code does so whenever the one function that it calls meets its own contract
+-- The token is split because a listing has one lifetime, but the functions it calls have one lifetime per slice.
 -- Assumes nothing.
 use mathlib.Core.Path.{_≡_, sym, subst}
 use mathlib.Core.List.{List, [], _∷_}
@@ -38,11 +39,11 @@ use denote.Triple.Table.{entered, cited}
 -- ---- operands: entry m of the context is the cell of the local i
 module _ {M : Type 1} {𝓤 : URA M} {H : Heap 𝓤} {A : Atoms 𝓤} {K : Type 0} {W : Given 𝓤 H A} {Γ : List (Item 𝓤)} {E : Env 𝓤 H}
     {i : ℕ} {q : Share} where
-  -- the local
+  -- The local i.
   pub copied : {v : Val} → K → (m : ℕ) → nth 𝓤 H A m Γ ≡ ‵ (fat q (spotOf 𝓤 H E i .0) (spotOf 𝓤 H E i .1) 0 v) → Opd K W Γ E (copy (place i [])) v
   copied t m e = load t (from t (stop t)) (look t m e)
 
-  -- its field k
+  -- Field k of the local i.
   pub field-of : {ν : Sym} {τs : Tys} {vs : Vals} {τ : Ty} {d : ℕ} → K → (m k : ℕ)
       → nth 𝓤 H A m Γ ≡ ‵ (fat q (tyStruct ν τs) (spotOf 𝓤 H E i .1) 0 (vstruct vs))
       → fieldAt 0 τs k ≡ some (τ, d) → fieldOf (spotOf 𝓤 H E i .0) k ≡ some (τ, d)
@@ -53,16 +54,16 @@ module _ {M : Type 1} {𝓤 : URA M} {H : Heap 𝓤} {A : Atoms 𝓤} {K : Type 
       let p = subst (λ (j : Item 𝓤). Part K W j q τ b (0 + d) (getV vs k) back) (sym e) (sub t k f (whole t)) in
       load t (from t (fld t g (stop t))) (look-in t m p)
 
--- ---- locals: entry m of the context is the local's cell, and the next one says that it can be freed
+-- ---- locals: entry m of the context is the cell of the local, and the next entry says that it can be freed
 module _ {M : Type 1} {𝓤 : URA M} {H : Heap 𝓤} {A : Atoms 𝓤} {K : Type 0} {W : Given 𝓤 H A} {Γ : List (Item 𝓤)} {E : Env 𝓤 H} where
-  -- an assignment to the local i, which has room
+  -- An assignment to the local i, which has room.
   pub sets : {C : Calls 𝓤 H} {Λ : Loops 𝓤 H} {p : Post 𝓤 H} {rest : Body} {i : ℕ} {rv : RValue} {v : Val} → K → (m : ℕ) → Rv K W Γ E rv v
       → nth 𝓤 H A m Γ ≡ ‵ (froom (spotOf 𝓤 H E i .0) (spotOf 𝓤 H E i .1) 0) → T (hasTy (spotOf 𝓤 H E i .0) v) × WT v
       → Step K W (put 𝓤 H A m (‵ (fat fullShare (spotOf 𝓤 H E i .0) (spotOf 𝓤 H E i .1) 0 v)) Γ) (runs C Λ E rest p)
       Γ (runs C Λ E (seq (assign (place i []) rv) rest) p)
   sets t m r e z = assigns t r (from t (stop t)) (init t m e z)
 
-  -- the first local that is left is freed
+  -- Frees the first of the remaining locals.
   pub freed : {τ : Ty} {b : ℕ} {v : Val} {g : Goal 𝓤 H} → K → (m : ℕ)
       → nth 𝓤 H A m Γ ≡ ‵ (fat fullShare τ b 0 v) → nth 𝓤 H A m (del 𝓤 H A m Γ) ≡ ‵ (fdies τ b)
       → Step K W (del 𝓤 H A m (del 𝓤 H A m Γ)) (frees E g) Γ (frees ((τ, b) ∷ E) g)
@@ -75,8 +76,8 @@ module _ {M : Type 1} {𝓤 : URA M} {H : Heap 𝓤} {A : Atoms 𝓤} {K : Type 
       subst (λ (j : Item 𝓤). ent 𝓤 (⋆ 𝓤 H A Γ) (sep 𝓤 (mean 𝓤 H A j) (⋆ 𝓤 H A Γ′))) e (pull 𝓤 H A m Γ) in
       step (λ s. by t (via 𝓤 _ R (via 𝓤 _ (mono∗ 𝓤 (W .laws .at-room τ b 0 v) D) ((free1 t $ s) .prf))))
 
--- ---- the token
--- a lifetime for each slice, and a share of its token for each
+-- ---- the lifetime token
+-- A lifetime for each slice, and a share of the token for each.
 abbrev pub both : Lft → Lfts 2
 both κ = (κ, (κ, tt))
 
@@ -84,7 +85,7 @@ abbrev pub halves : Share → Shares 2
 halves q = (PosShare·left q, (PosShare·right q, tt))
 
 module _ {M : Type 1} (𝓤 : URA M) (H : Heap 𝓤) (A : Atoms 𝓤) where
-  -- the token of a listing's function, and those of the one that it calls
+  -- The token of a function of this crate, and the tokens of the function that it calls.
   abbrev pub token : Lft → Share → Item 𝓤
   token κ q = ‵ (flft κ q) ⊛ ‵ ftrue
 
@@ -102,7 +103,7 @@ module _ {M : Type 1} (𝓤 : URA M) (H : Heap 𝓤) (A : Atoms 𝓤) where
 
 -- ---- the call
 module _ {M : Type 1} {𝓤 : URA M} {H : Heap 𝓤} {A : Atoms 𝓤} {K : Type 0} {W : Given 𝓤 H A} {Γ : List (Item 𝓤)} {G : Goal 𝓤 H} where
-  -- what is known of the answer r is said of it by the contract of the function that was called
+  -- The contract of the called function implies what is known about its answer r.
   pub answered : K → Soaks G → (κ : Lft) (q : Share) (B : RattleType) (u : Val) (Known : B .Denot → Type 0) (Said : B .Denot → SProp 𝓤)
       → ((r : B .Denot) → ent 𝓤 (Said r) (fact 𝓤 (Known r)))
       → ((r : B .Denot) → Known r → Is B r (u ∷ []) → Seq K W (‵ (B .own r (u ∷ [])) ∷ token 𝓤 H A κ q ∷ Γ) G)
@@ -113,7 +114,7 @@ module _ {M : Type 1} {𝓤 : URA M} {H : Heap 𝓤} {A : Atoms 𝓤} {K : Type 
       split t $ use1 W (token 𝓤 H A κ q) (joined 𝓤 H A W κ q) $ move t (1 ∷ []) $ peeks t B (Is B) (shows 𝓤 H A B) r (u ∷ []) (go r e)))
 
 module _ {M : Type 1} (𝓤 : URA M) (H : Heap 𝓤) (𝓜 : Model 𝓤 H) (𝓡 : Running 𝓤 H 𝓜) (γ : Routines) (k f : Name) (e : Fn) (r : Routine) (c d : Contract 𝓤) where
-  -- the function k has the code e and calls f, which is the routine r
+  -- The function k has the code e and calls f, which is the routine r.
   pub rests-on : Closed 𝓤 H (tables 𝓤 H 𝓜 𝓡 γ .C) (tables 𝓤 H 𝓜 𝓡 γ .Λ) k e → γ f ≡ r
       → ((𝓣 : Tables 𝓤 H) → Triple 𝓤 (𝓣 .C f) c → Triple 𝓤 (WpFn 𝓤 H (𝓣 .C) (𝓣 .Λ) e) d) → Triple 𝓤 (𝓡 .run r) c → Triple 𝓤 (𝓡 .run (γ k)) d
   unfolding tablesOf

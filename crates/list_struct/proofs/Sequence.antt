@@ -1,10 +1,12 @@
--- The whole sequence of a listing's steps.
---   answer-next: what a step answers, by what the one before it answered
---   ended, refused-ends: after nothing, and after a refusal, nothing for ever
---   made-ends: over any nodes, nothing from step n on
---   made-built, answers-built: over nodes as built, on a handle, a listing is made, and its steps answer the children by definition
---   child-named: where calls name a list of positions one by one and then nothing, those are the children, in their order
---   stepping-answers: the same sequence is the code's; listing-built, listing-ends: so each law holds of what the code answers
+-- The whole sequence of the steps of a listing.
+--   answer-next: the answer of a step, from the answer of the step before
+--   ended, refused-ends: after `nothing`, and after a refusal, all steps answer nothing
+--   made-ends: over any nodes, step n and all later steps answer nothing
+--   made-built, answers-built: over nodes as built, on a handle, the constructor succeeds and step k answers child k by definition
+--   StepsName: calls name a list of positions one by one and then answer nothing
+--   child-named: such a list has exactly the children, in their order
+--   stepping-answers: the steps of the code answer this sequence
+--   listing-built, listing-ends: answers-built and made-ends, for the answers of the code
 -- Assumes nothing.
 use mathlib.Core.Path.{_≡_, refl, ap, _∙_}
 use mathlib.Core.Bool.{Bool, true, false}
@@ -36,7 +38,7 @@ use Rattle.list_struct.specs.Paper.{paperListing, paperMade}
 use Rattle.list_struct.specs.Steps.{nth, answerAt, childAt, Stepping}
 
 -- ---- any listing
--- what it holds after an answer
+-- What the listing holds after an answer.
 abbrev pub next : Listing → Answer → Answer
 next l = heldAfter (l .rising) (now (l .words)) (l .n) (now (l .nodes)) (l .block)
 
@@ -60,12 +62,12 @@ module _ (l : Listing) where
   pub refused-ends : (j k m : ℕ) → k < j → answerAt k l ≡ refused m → answerAt j l ≡ nothing
   refused-ends j k m h e = ended j (suc k) (omega arith) (answer-next k l ∙ ap (next l) e)
 
--- ---- as it was made, over any nodes
+-- ---- a listing from its constructor, over any nodes
 module _ (rising : Bool) (ws : RefT (List ℕ)) (n : ℕ) (s : RefT (List ℤ)) (B v : ℕ) where
   abbrev pub fresh : Listing
   fresh = created rising ws n s B v .listing
 
-  -- fewer than n - k handles are left once k steps are made
+  -- After k steps fewer than n - k positions are left.
   fewer : (k : ℕ) → Only (HandlesLeft rising n (n - k)) (answerAt k fresh)
   fewer zero = rw (answer-first fresh) (go (sought rising (now ws) n (now s) B v) (sought-within rising (now ws) n (now s) B v))
     where
@@ -82,7 +84,7 @@ module _ (rising : Bool) (ws : RefT (List ℕ)) (n : ℕ) (s : RefT (List ℤ)) 
       go nothing w = tt
       go (refused m) w = tt
 
-  -- no handle has fewer than one left
+  -- From every position below n at least one position is left: itself.
   some-left : (t : Bool) (u : ℕ) → u < n → 0 < left t n u
   some-left true u l = omega arith
   some-left false u l = omega arith
@@ -103,7 +105,7 @@ module _ (rising : Bool) (ws : RefT (List ℕ)) (n : ℕ) (s : RefT (List ℤ)) 
 
   -- ---- over nodes as built, on a handle
   module _ (g : nodesGate (length (now ws)) n (length (now s)) B ≡ Pass) (b : AsBuilt (now ws) n (now s) B) (o : opens (now ws) n v ≡ true) where
-    -- a public call on a handle is the call by definition
+    -- A public call on a handle equals the call by definition.
     node-built : (call : List ℕ → ℕ → Searches → ℕ → Answer) (u : ℕ) → opens (now ws) n u ≡ true
         → nodeAnswer call (now ws) n (now s) B u ≡ call (now ws) n (defined (now ws) n) u
     unfolding nodeAnswer handleGate
@@ -118,7 +120,7 @@ module _ (rising : Bool) (ws : RefT (List ℕ)) (n : ℕ) (s : RefT (List ℤ)) 
     unfolding sought
     sought-built = node-built (startCall rising) v o
 
-    -- the children by definition
+    -- The children by definition.
     abbrev child : ℕ → Answer
     child = childAt rising (now ws) n v
 
@@ -132,7 +134,7 @@ module _ (rising : Bool) (ws : RefT (List ℕ)) (n : ℕ) (s : RefT (List ℤ)) 
         go nothing p = tt
         go (refused m) p = absurd p
 
-    -- what is found first is no refusal
+    -- The answer that the constructor finds is no refusal.
     started : (a : Answer) → HandleOrNothing (now ws) n a → (making a ≡ at 0) × (begun a ≡ a)
     started (at u) p = (refl, refl)
     started nothing p = (refl, refl)
@@ -147,13 +149,13 @@ module _ (rising : Bool) (ws : RefT (List ℕ)) (n : ℕ) (s : RefT (List ℤ)) 
     answers-built (suc k) = answer-next k fresh ∙ ap (next fresh) (answers-built k) ∙ next-built (child k) (child-handle k)
 
 -- ---- the children as a list
--- from the answer a on, each position followed by what `step` answers of it: these positions one by one, then nothing
+-- Starting with the answer a, the call `step` names exactly the positions of the list, one after another, and then answers nothing.
 abbrev pub StepsName : (ℕ → Answer) → Answer → List ℕ → Type 0
 StepsName step a [] = a ≡ nothing
 StepsName step a (v ∷ l) = (a ≡ at v) × StepsName step (step v) l
 
 module _ (step : ℕ → Answer) where
-  -- k steps from the answer a on
+  -- The answer after k steps from the answer a.
   chain : Answer → ℕ → Answer
   chain a zero = a
   chain a (suc k) = onward (chain a k) step
@@ -180,7 +182,7 @@ module _ (rising : Bool) (ws : List ℕ) (n v : ℕ) where
       → (k : ℕ) → childAt rising ws n v k ≡ nth l k
   child-named l h k = child-chain k ∙ chain-nth (nextCall rising ws n (defined ws n)) l k (startCall rising ws n (defined ws n) v) h
 
--- ---- the code
+-- ---- the steps of the code
 pub stepping-answers : (k : ℕ) (c : Children) (q : ℕ → Step) → Stepping c q → paperFound (q k .found) ≡ answerAt k (paperListing c)
 unfolding answerAt
 stepping-answers zero c q p = ap (λ (x : Outcome). x .answer) (p .first)
@@ -188,10 +190,10 @@ stepping-answers (suc k) c q p =
     stepping-answers k (q 0 .rest) (λ j. q (suc j)) (record { first = p .next 0; next = λ j. p .next (suc j) })
     ∙ ap (λ (x : Outcome). answerAt k (x .listing)) (p .first)
 
--- a listing that the code made, and its steps
+-- A listing that the code constructed, and its steps.
 module _ (rising : Bool) (ws : RefT (List ℕ)) (n : ℕ) (s : RefT (List ℤ)) (B v : ℕ)
     (m : Made) (q : ℕ → Step) (e : paperMade m ≡ created rising ws n s B v) (p : Stepping (m .listing) q) where
-  -- its steps are those of the listing on paper
+  -- Its steps answer what the steps of the specified listing answer.
   its-answers : (k : ℕ) → paperFound (q k .found) ≡ answerAt k (fresh rising ws n s B v)
   its-answers k = stepping-answers k (m .listing) q p ∙ ap (λ (x : Outcome). answerAt k (x .listing)) e
 

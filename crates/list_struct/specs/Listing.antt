@@ -1,4 +1,4 @@
--- A listing of children on paper, in document 01's words: what it keeps, and what a making and a step of it give.
+-- SCOPE, Listing children: the fields of a listing, and what its constructor and its steps give.
 -- Assumes nothing.
 use mathlib.Core.Bool.{Bool}
 use mathlib.Core.List.{List}
@@ -8,7 +8,7 @@ use denote.Ref.{RefT, now}
 use Rattle.row.specs.Answer.{Answer}
 use Rattle.list_slice.specs.Seek.{sought, making, begun, heldAfter}
 
--- a listing: the borrowed view of row and nodes, the way it goes, and what its next step answers
+-- A listing: references to the words and the node buffer, n, B, its direction, and what its next step answers.
 pub record Listing : Type 0 where
   pub words : RefT (List ℕ)
   pub n : ℕ
@@ -17,22 +17,22 @@ pub record Listing : Type 0 where
   pub rising : Bool
   pub held : Answer
 
--- what a making or a step gives: its answer, and the listing to go on with
+-- The result of a constructor or a step: its answer, and the listing to go on with.
 pub record Outcome : Type 0 where
   pub answer : Answer
   pub listing : Listing
 
--- the listing l, holding a
+-- The listing l with a as its held answer.
 abbrev pub holding : Listing → Answer → Listing
 holding l a = record { words = l .words; n = l .n; nodes = l .nodes; block = l .block; rising = l .rising; held = a }
 
--- a listing is made
+-- The constructor answers the refusal that it met, otherwise 0, and the listing holds the first handle or nothing.
 abbrev pub created : Bool → RefT (List ℕ) → ℕ → RefT (List ℤ) → ℕ → ℕ → Outcome
 created rising ws n s B v = record {
   answer = making (sought rising (now ws) n (now s) B v);
   listing = record { words = ws; n = n; nodes = s; block = B; rising = rising; held = begun (sought rising (now ws) n (now s) B v) };
 }
 
--- a step answers the handle that the listing holds and seeks the next
+-- A step answers what the listing holds; the listing then holds the answer of the sibling call, or nothing.
 abbrev pub stepped : Listing → Outcome
 stepped l = record { answer = l .held; listing = holding l (heldAfter (l .rising) (now (l .words)) (l .n) (now (l .nodes)) (l .block) (l .held)) }

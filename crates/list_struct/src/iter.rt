@@ -1,7 +1,7 @@
-// A listing, and its thin functions. The borrow checker covers no function over a struct that holds references, so each is
-// proved by a walk of its code; the work is left to `seek`, which takes plain slices.
+// A listing and its functions. The functions are thin: the work is done by the crate list_slice, on plain slices.
 //
-// The functions test whatever they are lent, a listing's fields too: any field values are safe.
+// Rattle's borrow checker covers no function over a struct with references, so each of these functions has a hand-written proof.
+// Every function tests all that it is passed, the fields of a listing too. So any field values are safe.
 ghost use mathlib.Core.Path.{_≡_};
 ghost use mathlib.Core.Bool.{true, false};
 ghost use Rattle.list_struct.specs.Listing.{created, stepped};
@@ -13,7 +13,7 @@ use list_slice::after;
 use list_slice::first;
 use list_slice::last;
 
-// The children of the node v, from the first to the last.
+// Constructs the listing of the children of v, from the first to the last.
 pub fn children<'a>(
     words: &'a [u64],
     n: usize,
@@ -37,7 +37,7 @@ pub fn children<'a>(
     }
 }
 
-// The children of the node v, from the last to the first.
+// Constructs the listing of the children of v, from the last to the first.
 pub fn rev_children<'a>(
     words: &'a [u64],
     n: usize,
@@ -61,7 +61,7 @@ pub fn rev_children<'a>(
     }
 }
 
-// Answers what the listing holds, and seeks the next.
+// Answers what the listing holds and looks for the next handle.
 pub fn step<'a>(mut c: Children<'a>) -> Step<'a>
     ensures { λ q. ⌜ paperStep q ≡ stepped (paperListing (c .entry)) ⌝ }
 {

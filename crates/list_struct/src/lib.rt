@@ -1,7 +1,7 @@
-// The children of a node, listed one at a time, from the first or from the last.
+// Lists the children of an outline node one at a time, from the first or from the last.
 //
-// A listing keeps a borrowed view of the row and of the nodes beside the handle that its next step answers. Its functions are
-// thin: what they do stands in the crate `seek`, on slices and numbers. Here are the walks that prove them, and the laws of their steps.
+// A listing borrows the words and the node buffer and stores what its next step answers. Its functions are thin; their work is done by the
+// crate list_slice, on slices and numbers. This crate has their hand-written proofs and the laws of the steps.
 mod iter;
 mod view;
 

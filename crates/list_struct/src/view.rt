@@ -1,25 +1,27 @@
-// A listing's borrowed view of the row and the nodes, and what a making and a step give.
+// The struct of a listing, and the results of a constructor and a step.
 use row::Found;
 use row::Gate;
 
-// The fields stand in the order in which every call takes its arguments.
+// A listing. Its fields have the order in which every call takes its arguments.
 pub struct Children<'a> {
     pub words: &'a [u64],
     pub n: usize,
     pub nodes: &'a [i64],
     pub block: usize,
-    // Whether it goes by next_sibling; else it goes by previous_sibling.
+    // True if the next handle is the next sibling, false if it is the previous sibling.
     pub rising: bool,
-    // What the next step answers: a handle; a refusal met in seeking it; or nothing, for ever.
+    // The answer of the next step: a handle, a refusal met in the search for it, or `nothing`, which all later steps answer too.
     pub held: Found,
 }
 
-// An enum cannot hold a reference. So a making that is refused gives a shut gate, beside a listing that has ended.
+// The result of a constructor. An enum cannot have a reference, so a refused constructor returns the refusal in `gate`, together with a
+// listing that has ended.
 pub struct Made<'a> {
     pub gate: Gate,
     pub listing: Children<'a>,
 }
 
+// The result of a step: its answer, and the listing to go on with.
 pub struct Step<'a> {
     pub found: Found,
     pub rest: Children<'a>,

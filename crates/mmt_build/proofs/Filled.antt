@@ -1,8 +1,15 @@
--- The buffer as it is filled: a leaf more, a level more, and the leaves' part put back into the whole.
---   filled-more: one leaf more; leveled-start, leveled-down: no inner node yet, and one more
---   back, back-length, back-node, back-past: a part that was lent and comes back; leaves-leveled: the leaves' part
---   leveled-on: one after the other; leveled-written: all nodes filled are the numbers that a build writes
---   when-passed, when-refused: what the call leaves
+-- The node buffer during a build: after one more block leaf, after one more inner node, and after the part of the block leaves returns.
+--   filled-more: one more block leaf is filled
+--   leveled-start: no inner node is filled yet
+--   leveled-down: one more inner node is filled
+--   back: the buffer after its c entries from a on were passed as a slice of their own and contain ys afterwards
+--   back-length: `back` keeps the length of the buffer
+--   back-past: the entries after the slice are unchanged
+--   back-node: the nodes inside the slice are those of ys
+--   leveled-on: two parts of a build, one after the other
+--   leaves-leveled: after the block leaves are filled, the nodes from I on have their required entries
+--   leveled-written: after all nodes are filled, the buffer begins with the entries that a build writes
+--   when-passed, build-refused: the buffer after a successful build and after a refused one
 -- Assumes nothing.
 use mathlib.Core.Path.{_≡_, refl, sym, ap, _∙_}
 use mathlib.Core.List.{List, _++_}
@@ -23,19 +30,19 @@ use Rattle.mmt_layout.proofs.Admitted.{layout-leaves}
 use Rattle.mmt_node.proofs.Nodes.{from-leaf, from-ext, put-length, node-put, other-number, node-other}
 use Rattle.mmt_node.proofs.Written.{ruled-of, written-is}
 
--- ---- leaves
+-- ---- block leaves
 pub filled-more : (ws : List ℕ) (n B b : ℕ) (part : List ℤ) (x : Summary) → width * (b + 1) ≤ length part → x ≡ leafOf ws n B b → Filled ws n B b part → Filled ws n B (b + 1) (withNode part b x)
 filled-more ws n B b part x h e f j l = elim (decLt j b) [
   | yes p ↦ node-other part b x j (λ q. omega arith) ∙ f j p
   | no p ↦ (let q : j ≡ b = omega arith in rw q (node-put part b x h ∙ e))
 ]
 
--- ---- levels
+-- ---- inner nodes
 pub leveled-start : (ws : List ℕ) (n : ℕ) (s : List ℤ) (B k : ℕ) → Ruled ws n s B k → Leveled ws n s B k s
 leveled-start ws n s B k r = record { nodes = r; past = λ i l. refl; same = refl }
 
 module _ (ws : List ℕ) (n : ℕ) (s t : List ℤ) (B : ℕ) (k : ℕ) (x : Summary) where
-  -- node k is put where those after it stand
+  -- if the nodes after k have their required entries, so do the nodes from k on after the write to node k
   put-rule : width * (k + 1) ≤ length t → x ≡ nodeFrom ws n B (nodeAt t) k → Ruled ws n t B (k + 1) → Ruled ws n (withNode t k x) B k
   put-rule h e r j o i = elim (decLt k j) [
     | yes p ↦ node-other t k x j (λ q. omega arith) ∙ r j (omega arith) i ∙ later j (omega arith)
@@ -52,7 +59,7 @@ module _ (ws : List ℕ) (n : ℕ) (s t : List ℤ) (B : ℕ) (k : ℕ) (x : Sum
     same = put-length t k x ∙ f .same;
   }
 
--- ---- the c numbers from a on were lent, and come back as ys
+-- ---- the c entries from a on are passed as a slice of their own, which contains ys afterwards
 abbrev pub back : ℕ → ℕ → List ℤ → List ℤ → List ℤ
 back a c s ys = take a s ++ (ys ++ drop c (drop a s))
 
@@ -91,7 +98,7 @@ module _ (a c : ℕ) (s ys : List ℤ) (room : a + c ≤ length s) (size : lengt
       let r₁ = ap (λ (i : ℕ). getD (back a c s ys) i (pos 0)) r ∙ in-part (width * j + 2) (omega arith) in
       λ i. record { total = p₁ i; least = q₁ i; greatest = r₁ i }
 
--- ---- the whole
+-- ---- all nodes
 pub leveled-on : (ws : List ℕ) (n : ℕ) (s t u : List ℤ) (B : ℕ) (k j : ℕ) → Leveled ws n s B k t → Leveled ws n t B j u → Leveled ws n s B j u
 leveled-on ws n s t u B k j f g = record { nodes = g .nodes; past = λ i l. g .past i l ∙ f .past i l; same = g .same ∙ f .same }
 

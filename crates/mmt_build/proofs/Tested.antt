@@ -1,9 +1,15 @@
--- The as-built test: what it found and what it finds, how it goes down the nodes, and what the call answers in each case.
---   firstTwo, two-agree, two-differ: the third test decides where the first two hold, and they decide where not
---   numbers-true, numbers-yes: what the test of two nodes' numbers found, and what it finds
---   nodeTest: the test of node k; built-true, built-yes: what the test of all nodes found, and what it finds
---   Checked, start, down, differs, done: the nodes from k on are as built, so that those below k decide
---   Promised, when-refused, when-built, when-not: refused; yes; no
+-- Laws of the as-built test: the comparison of two nodes, the loop over all nodes, and the answer of the call.
+--   firstTwo: total and least of two nodes are the same
+--   two-agree, two-differ: the third comparison decides if `firstTwo` holds; otherwise the nodes differ
+--   numbers-true, numbers-yes: the comparison says yes exactly if the nodes are the same
+--   nodeTest: the test of node k
+--   built-true, built-yes: the test of all nodes says yes exactly if the buffer is as built
+--   Checked: the nodes from k on have passed the test, so the nodes below k decide
+--   start: `Checked` before the loop
+--   down, differs: the next node passes, so `Checked` goes on; or it fails, so the answer is no
+--   done: all nodes have passed, so the answer is yes
+--   AsBuiltPromise: the promise of `as_built`
+--   when-refused, when-built, when-not: the promise holds for a refusal, for yes and for no
 -- Assumes nothing.
 use mathlib.Core.Path.{_≡_, refl, sym, ap, _∙_}
 use mathlib.Core.Bool.{Bool, true, false, _&&_, and-assoc, true≢false}
@@ -30,9 +36,9 @@ use Rattle.mmt_node.specs.Nodes.{nodeAt, nodeFrom, Ruled, AsBuilt}
 use Rattle.mmt_build.specs.Check.{sameSummary, builtTest, asBuiltAnswer, DecidesBuilt}
 use Rattle.mmt_layout.proofs.Admitted.{gate-fine}
 
--- ---- the numbers of two nodes
+-- ---- the comparison of two nodes
 module _ (x y : Summary) where
-  -- the tests that come before that of the greatest
+  -- the first two comparisons, those of total and least
   abbrev pub firstTwo : Bool
   firstTwo = eqZ (x .total) (y .total) && eqZ (x .least) (y .least)
 
@@ -75,7 +81,7 @@ module _ (ws : List ℕ) (n : ℕ) (s : List ℤ) (B : ℕ) where
   unfolding builtTest
   built-yes b = each-all (nodeTest ws n s B) (count n B) (λ k i. numbers-yes _ _ (b .node k (omega arith) i))
 
-  -- the nodes from k on are as built, so that those below k decide
+  -- the nodes from k on have their required entries, so the nodes below k decide
   pub record Checked (k : ℕ) : Type 0 where
     pub within : k ≤ count n B
     pub below : builtTest ws n s B ≡ allBelow (nodeTest ws n s B) k
@@ -85,7 +91,7 @@ module _ (ws : List ℕ) (n : ℕ) (s : List ℤ) (B : ℕ) where
   unfolding builtTest
   start = record { within = omega arith; below = refl; ruled = λ j o i. absurd (omega arith) }
 
-  -- node k is the next one down from those that were tested
+  -- the nodes from m on are tested; the next one is node k = m - 1
   module _ (m k : ℕ) (next : m ≡ suc k) (c : Checked m) where
     pub down : nodeTest ws n s B k ≡ true → Checked k
     unfolding allBelow
@@ -103,7 +109,7 @@ module _ (ws : List ℕ) (n : ℕ) (s : List ℤ) (B : ℕ) where
   unfolding allBelow
   done k z c = sym (rw z at (c .below))
 
--- ---- what the call promises
+-- ---- the promise of the call
 abbrev pub AsBuiltPromise : List ℕ → ℕ → List ℤ → ℕ → Told → Type 0
 AsBuiltPromise ws n s B a = (paperTold a ≡ asBuiltAnswer ws n s B) × DecidesBuilt ws n s B a
 

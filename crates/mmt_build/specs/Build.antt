@@ -1,4 +1,4 @@
--- What a build answers, and what it leaves in the buffer.
+-- The answer of `build`, and the node buffer afterwards (SCOPE, The node buffer: The build and the as-built test).
 -- Assumes nothing.
 use mathlib.Core.List.{List, _++_}
 use Prim.Native.Nat.{ℕ, _*_}
@@ -9,10 +9,10 @@ use Rattle.row.specs.Gates.{through, kept}
 use Rattle.mmt_layout.specs.Layout.{width, count, nodesGate}
 use Rattle.mmt_node.specs.Nodes.{written}
 
--- 0 where refusals 1 to 4 are passed
+-- A build that passes tests 1 to 4 succeeds. Its specification answer is 0.
 abbrev pub buildAnswer : List ℕ → ℕ → List ℤ → ℕ → Answer
 buildAnswer ws n s B = through (nodesGate (length ws) n (length s) B) (at 0)
 
--- the buffer after the call: the numbers that document 01 gives, followed by what stood past them; a refusal leaves all
+-- The buffer after the call: the written entries, then the old entries after the nodes. On refusal it is the old buffer.
 unfoldable pub builtNodes : List ℕ → ℕ → List ℤ → ℕ → List ℤ
 builtNodes ws n s B = kept (nodesGate (length ws) n (length s) B) (written ws n B ++ drop (width * count n B) s) s

@@ -1,4 +1,4 @@
--- The as-built test, after refusals 1 to 4, and that it says yes exactly on a buffer as built.
+-- The as-built test: its answer, and when it is yes (SCOPE, The node buffer: The build and the as-built test).
 -- Assumes nothing.
 use mathlib.Core.Path.{_≡_}
 use mathlib.Core.Bool.{Bool, cond, _&&_}
@@ -17,19 +17,19 @@ use Rattle.bits_stretch.specs.declared.summary.Summary.{Summary}
 use Rattle.mmt_layout.specs.Layout.{count, nodesGate}
 use Rattle.mmt_node.specs.Nodes.{nodeAt, nodeFrom, AsBuilt}
 
--- all three numbers are the same
+-- Two nodes are the same if all three entries are.
 unfoldable pub sameSummary : Summary → Summary → Bool
 sameSummary x y = eqZ (x .total) (y .total) && (eqZ (x .least) (y .least) && eqZ (x .greatest) (y .greatest))
 
--- each node is what its bits or its children make it
+-- Every node has its required entries, computed from its bits or from its children in the same buffer.
 unfoldable pub builtTest : List ℕ → ℕ → List ℤ → ℕ → Bool
 builtTest ws n s B = allBelow (λ k. sameSummary (nodeAt s k) (nodeFrom ws n B (nodeAt s) k)) (count n B)
 
--- 1 for yes, 0 for no
+-- The answer after tests 1 to 4: 1 for yes, 0 for no.
 unfoldable pub asBuiltAnswer : List ℕ → ℕ → List ℤ → ℕ → Answer
 asBuiltAnswer ws n s B = through (nodesGate (length ws) n (length s) B) (cond (builtTest ws n s B) (at 1) (at 0))
 
--- where nothing is refused: yes exactly on a buffer as built, else no
+-- After tests 1 to 4 the answer is yes exactly if the buffer is as built, and no otherwise.
 pub record DecidesBuilt (ws : List ℕ) (n : ℕ) (s : List ℤ) (B : ℕ) (a : Told) : Type 0 where
   pub yes : nodesGate (length ws) n (length s) B ≡ Pass → AsBuilt ws n s B → a ≡ Yes
   pub built : a ≡ Yes → AsBuilt ws n s B

@@ -1,12 +1,13 @@
-// The build: the leaves from their bits, then the levels above from their children.
+// The build: fills the block leaves from their bits, then the inner nodes from their children.
 ghost use mathlib.Core.Path.{_≡_};
 ghost use mathlib.Core.List.{_++_};
 ghost use Prim.Native.Nat.{_*_, _%_, _≤_};
 ghost use lib.ListN.{length, drop};
+ghost use Rattle.row.specs.Limits.{maxBits};
 ghost use Rattle.row.specs.Answer.{at, paperBuilt};
 ghost use Rattle.row.specs.Gates.{through};
 ghost use Rattle.bits_lookup.specs.Table.{IsTable};
-ghost use Rattle.mmt_layout.specs.Layout.{width, leaves, inner, count, nodesGate, Fine};
+ghost use Rattle.mmt_layout.specs.Layout.{width, leaves, inner, count, nodesGate, Fine, maxBlock};
 ghost use Rattle.mmt_node.specs.Nodes.{Ruled, written};
 ghost use Rattle.mmt_build.specs.Build.{builtNodes};
 ghost use Rattle.mmt_build.specs.Filling.{Filled, Leveled};
@@ -20,11 +21,11 @@ use mmt_node::put_node;
 use row::Built;
 use row::Gate;
 
-// The leaves. They are lent as a part of their own, which has room for them and no more.
+// Fills the block leaves. `part` is the part of the node buffer from entry 3I on, with exactly three entries per block leaf.
 fn fill_leaves(t: &Lookup, words: &[u64], n: usize, block: usize, part: &mut [i64])
     requires { ⌜ IsTable (now t) ⌝ }
-    requires { ⌜ (n ≤ 4294967296) × (n ≤ 64 * length (now words)) ⌝ }
-    requires { ⌜ (8 ≤ block) × (block ≤ 65536) × (block % 8 ≡ 0) ⌝ }
+    requires { ⌜ (n ≤ maxBits) × (n ≤ 64 * length (now words)) ⌝ }
+    requires { ⌜ (8 ≤ block) × (block ≤ maxBlock) × (block % 8 ≡ 0) ⌝ }
     requires { ⌜ length (now part) ≡ width * leaves n block ⌝ }
     ensures { λ r. ⌜ Filled (now (words .entry)) n block (leaves n block) (now (part .exit)) ⌝ }
 {
@@ -36,7 +37,7 @@ fn fill_leaves(t: &Lookup, words: &[u64], n: usize, block: usize, part: &mut [i6
     }
 }
 
-// The inner nodes, from the last to the first: children have greater numbers, so they stand when they are asked.
+// Fills the inner nodes, from the last one down to node 0. Children have greater indices than their parent, so they are filled before it.
 fn fill_levels(
     t: &Lookup,
     words: &[u64],
@@ -60,7 +61,7 @@ fn fill_levels(
     }
 }
 
-// All nodes of the layout: the leaves' part is lent on and filled, then the levels above it.
+// Fills all nodes: passes the part of the block leaves to `fill_leaves`, then fills the inner nodes.
 fn fill_nodes(words: &[u64], n: usize, nodes: &mut [i64], block: usize, first: usize, all: usize)
     requires { ⌜ Fine (length (now words)) n (length (now nodes)) block ⌝ }
     requires { ⌜ (first ≡ inner n block) × (all ≡ count n block) ⌝ }
@@ -73,6 +74,7 @@ fn fill_nodes(words: &[u64], n: usize, nodes: &mut [i64], block: usize, first: u
     fill_levels(&t, words, n, nodes, block, first, all);
 }
 
+// Computes the layout and fills its nodes.
 fn fill(words: &[u64], n: usize, nodes: &mut [i64], block: usize)
     requires { ⌜ Fine (length (now words)) n (length (now nodes)) block ⌝ }
     ensures { λ r. ⌜ now (nodes .exit) ≡ written (now (words .entry)) n block ++ drop (width * count n block) (now (nodes .entry)) ⌝ }
@@ -83,7 +85,8 @@ fn fill(words: &[u64], n: usize, nodes: &mut [i64], block: usize)
     fill_nodes(words, n, nodes, block, first, all);
 }
 
-// Writes the nodes of n bits in blocks. What stands past them stays; a refusal leaves all.
+// Writes the entries of all min-max nodes of n bits in blocks of `block` bits, after the tests for refusals 1 to 4.
+// On success the entries after the nodes are unchanged. On refusal the whole buffer is unchanged.
 pub fn build(words: &[u64], n: usize, nodes: &mut [i64], block: usize) -> Built
     ensures { λ a. ⌜ paperBuilt a ≡ through (nodesGate (length (now (words .entry))) n (length (now (nodes .entry))) block) (at 0) ⌝ }
     ensures { λ a. ⌜ now (nodes .exit) ≡ builtNodes (now (words .entry)) n (now (nodes .entry)) block ⌝ }

@@ -1,5 +1,5 @@
-// The test that a buffer is the one that a build writes, without a second buffer: each node against its bits, or against the
-// join of its children as they stand. From the last node to the first, so that the children have been found right before.
+// The as-built test. It needs no second buffer: a block leaf is compared with its bits, an inner node with its children in the same buffer.
+// It goes from the last node down to node 0, so that the children of a node are tested before the node.
 ghost use mathlib.Core.Path.{_≡_};
 ghost use lib.ListN.{length};
 ghost use Rattle.row.specs.Answer.{paperTold};
@@ -15,12 +15,14 @@ use mmt_node::node_at;
 use row::Gate;
 use row::Told;
 
+// Tests whether two nodes have the same three entries.
 fn same(x: Summary, y: Summary) -> bool
     ensures { λ b. ⌜ b ≡ sameSummary x y ⌝ }
 {
     x.total == y.total && x.least == y.least && x.greatest == y.greatest
 }
 
+// Tests whether every node has its required entries.
 fn all_wanted(
     t: &Lookup,
     words: &[u64],
@@ -46,6 +48,7 @@ fn all_wanted(
     true
 }
 
+// Computes the layout and the lookup table, then tests every node.
 fn is_as_built(words: &[u64], n: usize, nodes: &[i64], block: usize) -> bool
     requires { ⌜ Fine (length (now words)) n (length (now nodes)) block ⌝ }
     ensures { λ b. ⌜ b ≡ builtTest (now (words .entry)) n (now (nodes .entry)) block ⌝ }
@@ -57,7 +60,7 @@ fn is_as_built(words: &[u64], n: usize, nodes: &[i64], block: usize) -> bool
     all_wanted(&t, words, n, nodes, block, first, all)
 }
 
-// Whether the buffer begins with the nodes that a build writes: yes or no, after refusals 1 to 4.
+// Tests whether the buffer begins with the entries that a build writes. It answers yes or no, after the tests for refusals 1 to 4.
 pub fn as_built(words: &[u64], n: usize, nodes: &[i64], block: usize) -> Told
     ensures { λ a. ⌜ paperTold a ≡ asBuiltAnswer (now (words .entry)) n (now (nodes .entry)) block ⌝ }
     ensures { λ a. ⌜ DecidesBuilt (now (words .entry)) n (now (nodes .entry)) block a ⌝ }

@@ -1,7 +1,7 @@
-// The node tree, three numbers a node in a lent buffer of i64: what each node is to hold, the build, and the test that a buffer is the one that a build
-// writes.
+// The min-max tree in the node buffer: the build, and the test whether a buffer is as built.
 //
-// A refusal comes before the first write. Summary past those of the layout's nodes are neither read nor written.
+// Both begin with the tests for refusals 1 to 4. A refused build has written nothing.
+// Entries of the buffer after the last min-max node are neither read nor written.
 mod builder;
 mod check;
 mod rule;

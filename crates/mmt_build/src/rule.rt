@@ -1,26 +1,27 @@
-// What a node is to hold: a leaf's numbers from its bits, an inner node's from its children.
+// The required entries of a min-max node: those of a block leaf from its bits, those of an inner node from its children.
 ghost use mathlib.Core.Path.{_≡_};
 ghost use Prim.Native.Nat.{_+_, _*_, _%_, _<_, _≤_};
 ghost use lib.ListN.{length};
+ghost use Rattle.row.specs.Limits.{maxBits};
 ghost use Rattle.bits_lookup.specs.Table.{IsTable};
-ghost use Rattle.mmt_layout.specs.Layout.{inner, count, Fine};
+ghost use Rattle.mmt_layout.specs.Layout.{inner, count, Fine, maxBlock};
 ghost use Rattle.mmt_node.specs.Nodes.{nodeAt, leafOf, nodeFrom, Ruled};
 use bits_lookup::Lookup;
 use bits_stretch::Summary;
 
-// The numbers of block b, from its bits.
+// Returns the summary of the bits of block b. The last block ends at n.
 pub fn leaf_summary(t: &Lookup, words: &[u64], n: usize, block: usize, b: usize) -> Summary
     requires { ⌜ IsTable (now t) ⌝ }
-    requires { ⌜ (n ≤ 4294967296) × (n ≤ 64 * length (now words)) ⌝ }
-    requires { ⌜ (8 ≤ block) × (block ≤ 65536) × (block % 8 ≡ 0) × (b * block < n) ⌝ }
+    requires { ⌜ (n ≤ maxBits) × (n ≤ 64 * length (now words)) ⌝ }
+    requires { ⌜ (8 ≤ block) × (block ≤ maxBlock) × (block % 8 ≡ 0) × (b * block < n) ⌝ }
     ensures { λ x. ⌜ x ≡ leafOf (now (words .entry)) n block b ⌝ }
 {
     let from = b * block;
     bits_measure::stretch_summary(t, words, from, row::earlier(n, from + block))
 }
 
-// The numbers that node k is to have: a leaf's from its bits, an inner node's from the nodes after it, which are as built.
-// The first leaf and the count of nodes are the layout's.
+// Returns the required entries of node k: those of a block leaf from its bits, those of an inner node from its children.
+// The nodes after k must have their required entries. The caller passes I as `first` and L + I as `all`, so the layout is computed once.
 pub fn wanted(
     t: &Lookup,
     words: &[u64],

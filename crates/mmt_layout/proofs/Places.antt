@@ -1,9 +1,21 @@
--- Where the nodes stand: node k, h levels above the leaves, begins at block (k + 1) * 2 ^ h - (I + 1) and ends where node
--- k + 1 begins.
---   inner-is, count-is: the counts of a row with bits; leaf-in: where a leaf's block begins
---   blockAt, and its laws: the bit at which a block begins, n from L on
---   reach, reach-zero, reach-next, reach-child: (k + 1) * 2 ^ h
---   Place, and its laws: node k is h levels above the leaves; its children, parent, right sibling
+-- The place of each node in the min-max tree (SCOPE, The node buffer: The layout): node k at height h covers the blocks from
+-- (k + 1)·2^h - (I + 1) on, up to the first block of node k + 1.
+--   inner-is, count-is: I and L + I of a row that has bits
+--   leaf-in: the block of a block leaf begins before n
+--   blockAt: the position at which block b begins, or n if block b would begin after n
+--   block-mono: a later block does not begin earlier
+--   block-le: no block begins after n
+--   block-in, block-out: block b begins at b·B if b is below L, and at n otherwise
+--   block-next: block b + 1 begins B bits after block b, or at n
+--   block-lt: a block that begins before n begins before every later block
+--   reach: (k + 1)·2^h
+--   reach-zero, reach-next, reach-child: `reach` at height 0, of node k + 1, and of a left child
+--   Place: node k has height h
+--   place-left, place-right, place-up, place-next: the heights of the left child, the right child, the parent and the right sibling
+--   place-ge: `reach` is at least 2 to the power of the height of the root
+--   place-inner: a node with a height above 0 is an inner node
+--   place-leaf, leaf-place: a node has height 0 exactly if it is a block leaf
+--   place-of: every node has a height
 -- Assumes nothing.
 use mathlib.Core.Path.{_≡_, refl, sym, ap, _∙_}
 use Prim.Native.Nat.{ℕ, zero, suc, _+_, _-_, _*_, _/_, _%_, _^_, _≤_, _<_, min}
@@ -24,7 +36,7 @@ module _ (n B : ℕ) (some : 0 < n) where
   pub count-is : count n B ≡ leaves n B + innerFor (leaves n B)
   count-is = sym (ap (λ (l : Layout). l .leaves + l .inner) (layout-some n B (λ z. omega arith)))
 
--- the block of a leaf begins before n
+-- the block of a block leaf begins before n
 pub leaf-in : (n B k : ℕ) → 0 < B → k < count n B → inner n B ≤ k → (k - inner n B) * B < n
 leaf-in n B k pB h l = let some = counted n B k h in leaves-in n B pB (k - inner n B) (omega (arith, inner-is n B some, count-is n B some))
 
@@ -75,7 +87,7 @@ reach-child h k =
     let q : suc (2 * k + 1) ≡ suc k * 2 = omega arith in
     ap (λ (x : ℕ). x * 2 ^ h) q ∙ mul-assoc (suc k) 2 (2 ^ h) ∙ ap (λ (x : ℕ). suc k * x) (sym (pow-succ' 2 h))
 
--- ---- node k stands h levels above the leaves and d below the root, of `top` levels
+-- ---- node k has height h and is d levels below the root; the root has height `top`
 pub record Place (top h k : ℕ) : Type 0 where
   pub d : ℕ
   pub sum : h + d ≡ top
@@ -97,7 +109,7 @@ module _ (top : ℕ) where
       let u = p .hi in
       record { d = suc (p .d); sum = omega arith; lo = omega (arith, pow-succ' 2 (p .d)); hi = omega (arith, pow-succ' 2 (p .d)) }
 
-  -- a node other than the root is below it
+  -- a node other than the root is at least one level below the root
   below : (h k : ℕ) → 0 < k → (p : Place top h k) → (c : ℕ) × (p .d ≡ suc c)
   below h k z p = go (p .d) (p .hi)
     where
@@ -121,7 +133,7 @@ module _ (top : ℕ) where
       let u : suc (suc k) ≤ 2 * 2 ^ suc (c .0) = rw (c .1) at (p .hi) in
       record { d = p .d; sum = p .sum; lo = (let x = p .lo in omega arith); hi = rw (c .1) (omega (arith, pow-succ' 2 (c .0))) }
 
-  -- 2 ^ top is reached by the level's first node
+  -- the first node of a level has the reach 2^top; the nodes after it have a greater one
   pub place-ge : (h k : ℕ) → Place top h k → 2 ^ top ≤ reach h k
   unfolding reach
   place-ge h k p = rw (← p .sum, pow-add, mul-comm (2 ^ h)) (mul-le-mul-right {m = 2 ^ p .d} {n = suc k} (2 ^ h) (p .lo))
@@ -138,12 +150,12 @@ module _ (top : ℕ) where
   pub leaf-place : (k : ℕ) → 2 ^ top ≤ suc k → suc (suc k) ≤ 2 * 2 ^ top → Place top 0 k
   leaf-place k l u = record { d = top; sum = omega arith; lo = l; hi = u }
 
-  -- ---- every node has its place
+  -- ---- every node has a height
 
   root : (k : ℕ) → k ≡ 0 → (h : ℕ) × Place top h k
   root k e = (top, record { d = 0; sum = omega arith; lo = omega arith; hi = omega arith })
 
-  -- the left or the right child of a node that has its place
+  -- a child of a node with a height has a height: it is the left or the right child
   child : (k : ℕ) → 0 < k → suc (suc k) ≤ 2 * 2 ^ top → (h : ℕ) × Place top h ((k - 1) / 2) → (h : ℕ) × Place top h k
   child k z l (zero, p) = absurd (omega (arith, place-leaf ((k - 1) / 2) p))
   child k z l (suc h, p) =
@@ -152,7 +164,7 @@ module _ (top : ℕ) where
         | no y ↦ (let e : 2 * ((k - 1) / 2) + 2 ≡ k = omega arith in (h, rw e at (place-right h ((k - 1) / 2) p)))
       ]
 
-  -- f is at least k
+  -- a recursion from node k to its parent; the measure is f, which is at least k
   seek : (f k : ℕ) → k ≤ f → suc (suc k) ≤ 2 * 2 ^ top → (h : ℕ) × Place top h k
   seek zero k h l = root k (omega arith)
   seek (suc f) k h l = go (decLt 0 k) (λ z. seek f ((k - 1) / 2) (omega arith) (omega arith))

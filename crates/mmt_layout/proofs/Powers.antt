@@ -1,8 +1,19 @@
--- The least power of two, and the counts of leaves and inner nodes.
---   power-ge, power-least, power-is: it is no less than x, no other is less, and one between x and 2x is it
---   inner-one, inner-many: the inner nodes for at most two leaves, and for more; shifted: the ones of a word, shifted right
---   inner-top: one more is a power of two; inner-room: there is room for the leaves
---   leaves-in, leaves-out, leaves-small, block-edge: the blocks that hold a bit, and where they begin
+-- Laws of powers of two and of the numbers of block leaves and inner nodes. P is the smallest power of two that is at least x.
+--   power-ge: P is at least x
+--   power-least: every power of two that is at least x is at least P
+--   power-is: a power of two that is at least x and below 2x is P
+--   inner-one: up to two block leaves have one inner node
+--   inner-many: more than two block leaves have P - 1 inner nodes
+--   shifted: m + z binary ones shifted right by z are m binary ones
+--   levels: the number of levels of inner nodes, which is the height of the root
+--   inner-top: I + 1 is 2 to the power of `levels`
+--   inner-room: there are at most I + 1 block leaves
+--   levels-least: `levels` is the smallest height, at least 1, of a tree with room for the block leaves
+--   inner-small: I is below 2^c if c is at least 1 and there are at most 2^c block leaves
+--   leaves-in: each of the first L blocks begins before n
+--   leaves-out: every later block would begin at n or after it
+--   leaves-small: there are at most 2^29 block leaves
+--   block-edge: every block begins at a byte boundary
 -- Assumes nothing.
 use mathlib.Core.Path.{_≡_, refl, sym, ap, _∙_}
 use mathlib.Core.Bool.{Bool, true, false, cond}
@@ -13,7 +24,8 @@ use native.Mathlib.Decide.{decLt}
 use borrow.Author.Tests.{leb-true, leb-false}
 use lib.Dec.{leb}
 use lib.Pow.{pow-pos, pow-mono, high, ones-split, ones-lt}
-use Rattle.mmt_layout.specs.Layout.{leaves, exponent, power, innerFor}
+use Rattle.row.specs.Limits.{maxBits}
+use Rattle.mmt_layout.specs.Layout.{leaves, exponent, power, innerFor, maxLeaves}
 
 -- ---- the least power of two
 lt-pow : (d : ℕ) → d < 2 ^ d
@@ -69,7 +81,7 @@ inner-many l c h p q = omega (arith, power-is l c p q)
 pub shifted : (m z : ℕ) → (2 ^ (m + z) - 1) / 2 ^ z ≡ 2 ^ m - 1
 shifted m z = ap (λ (x : ℕ). x / 2 ^ z) (ones-split m z) ∙ high (2 ^ m - 1) z (ones-lt z)
 
--- the levels of inner nodes
+-- the number of levels of inner nodes, which is the height of the root
 unfoldable pub levels : ℕ → ℕ
 levels l = max 1 (exponent l 0 l)
 
@@ -85,7 +97,7 @@ pub inner-room : (l : ℕ) → l ≤ suc (innerFor l)
 unfolding innerFor
 inner-room l = omega (arith, power-ge l)
 
--- the levels are the least number, at least 1, with room for the leaves
+-- `levels` is the smallest height, at least 1, of a tree with room for l block leaves
 pub levels-least : (l c : ℕ) → 0 < c → l ≤ 2 ^ c → levels l ≤ c
 unfolding levels
 levels-least l c h k = omega (arith, exponent-least l 0 l c (omega arith) k)
@@ -93,7 +105,7 @@ levels-least l c h k = omega (arith, exponent-least l 0 l c (omega arith) k)
 pub inner-small : (l c : ℕ) → 0 < c → l ≤ 2 ^ c → innerFor l < 2 ^ c
 inner-small l c h k = omega (arith, inner-top l, pow-mono {i = levels l} {j = c} (levels-least l c h k))
 
--- ---- leaves
+-- ---- block leaves
 module _ (n B : ℕ) (pB : 0 < B) where
   pub leaves-in : (b : ℕ) → b < leaves n B → b * B < n
   unfolding leaves
@@ -103,15 +115,15 @@ module _ (n B : ℕ) (pB : 0 < B) where
   unfolding leaves
   leaves-out b h = omega (arith, mul-le-mul-right {m = (n + (B - 1)) / B} {n = b} B h, div-add-mod' (n + (B - 1)) B, mod-lt (n + (B - 1)) {m = B} pB)
 
--- blocks of 8 bits and more
-pub leaves-small : (n B : ℕ) → 8 ≤ B → n ≤ 4294967296 → leaves n B ≤ 536870912
+-- a block has at least 8 bits, so at most 2^32 div 8 blocks are needed
+pub leaves-small : (n B : ℕ) → 8 ≤ B → n ≤ maxBits → leaves n B ≤ maxLeaves
 leaves-small n B h k = go (leaves n B) (λ b l. leaves-in n B (omega arith) b l)
   where
-    go : (l : ℕ) → ((b : ℕ) → b < l → b * B < n) → l ≤ 536870912
+    go : (l : ℕ) → ((b : ℕ) → b < l → b * B < n) → l ≤ maxLeaves
     go zero f = omega arith
     go (suc l) f = omega (arith, f l (omega arith), mul-le-mul-left {m = 8} {n = B} l h)
 
--- a block begins at a byte's edge
+-- every block begins at a byte boundary, because B is a multiple of 8
 pub block-edge : (b B : ℕ) → B % 8 ≡ 0 → b * B % 8 ≡ 0
 block-edge b B h =
     let e : B ≡ 8 * (B / 8) = omega arith in

@@ -1,7 +1,18 @@
--- In a buffer whose nodes from k on are as built, each of them has the numbers of its stretch of bits.
---   startOf, and its laws: the bit at which a node begins
---   Node: the numbers of a stretch, or (0,0,0) where it is empty; covers: each node has them; solid: a node that begins before n
---   node-is: a node's numbers are those of its stretch; ruled-tame: they are small
+-- If the nodes from k₀ on have their required entries, each of them has the summary of the bits that it covers.
+-- The bits that a node covers are called its stretch.
+--   Node: x is the summary of the stretch from a to t, or (0, 0, 0) if the stretch is empty
+--   startOf: the position at which the stretch of node k begins; it ends where the stretch of node k + 1 begins
+--   top: the height of the root
+--   start-child: the stretch of a left child begins where that of its parent begins
+--   start-le: no stretch begins after n
+--   start-mono, start-lt: a stretch does not end before it begins; it has a bit if it begins before n
+--   start-leaf: the stretch of block leaf b begins with block b
+--   inside: a node with a height above 0 is an inner node
+--   absent: the stretch of a node that does not exist begins at n
+--   covers: each node has the summary of its stretch, in the sense of `Node`
+--   solid: a node whose stretch begins before n exists, and its stretch has a bit
+--   node-is: the entries of a node are `summaryOf` its stretch
+--   ruled-tame: the entries of a node are small enough to be joined
 -- Assumes nothing.
 use mathlib.Core.Path.{_≡_, refl, sym, ap, _∙_}
 use mathlib.Core.Bool.{Bool, true, false}
@@ -13,6 +24,7 @@ use borrow.Author.Tests.{ltb-true, ltb-false}
 use lib.Dec.{ltb}
 use lib.IntN.{ℤ, pos, _+ℤ_}
 use lib.Pow.{pow-pos}
+use Rattle.row.specs.Limits.{maxBits}
 use Rattle.ints.specs.Order.{minZ, maxZ}
 use Rattle.ints.proofs.Linear.{plus}
 use Rattle.ints.proofs.Shapes.{zsum}
@@ -29,7 +41,7 @@ use Rattle.mmt_layout.proofs.Powers.{levels, inner-top, inner-room, leaves-in}
 use Rattle.mmt_node.proofs.Nodes.{inner-both, inner-left, inner-none, from-inner, from-leaf}
 use Rattle.mmt_layout.proofs.Places.{inner-is, count-is, blockAt, block-mono, block-le, block-in, block-out, block-next, block-lt, reach, reach-zero, reach-next, reach-child, Place, place-left, place-right, place-ge, place-inner, place-leaf, place-of}
 
--- ---- a stretch, or an empty one with the numbers (0,0,0)
+-- ---- the summary of a stretch, which is (0, 0, 0) if the stretch is empty
 pub data Node (e : ℕ → ℤ) (a t : ℕ) (x : Summary) : Type 0 where
   full : Full e a t x → Node e a t x
   empty : t ≡ a → x ≡ none → Node e a t x
@@ -50,14 +62,14 @@ module _ (e : ℕ → ℤ) (near : (k : ℕ) → StepsByOne e k) where
   unfolding joinOf none minZ maxZ
   none-none = refl
 
-  -- nothing follows an empty stretch
+  -- the join of two neighbouring stretches; if the left one is empty, so is the right one
   join-node : (a m t : ℕ) (x y : Summary) → (m ≡ a → t ≡ m) → Node e a m x → Node e m t y → Node e a t (joinOf x y)
   join-node a m t x y c (full f) (full g) = full (join-full e near a m t x y f g)
   join-node a m t x y c (full f) (empty q w) = rw (q, w, join-none a m x f) (full f)
   join-node a m t x y c (empty p u) (full g) = let s = g .some in let q = c p in absurd (omega arith)
   join-node a m t x y c (empty p u) (empty q w) = rw (u, w, none-none) (empty (q ∙ p) refl)
 
-  -- an inner node, by its children's stretches a..m and m..t
+  -- an inner node has the summary of the stretch a to t if its children have those of a to m and m to t
   inner-node : (M : ℕ) (node : ℕ → Summary) (k a m t n : ℕ) → a ≤ m → m ≤ t → t ≤ n → (a < n → a < m)
       → (2 * k + 1 < M → Node e a m (node (2 * k + 1))) → (2 * k + 2 < M → Node e m t (node (2 * k + 2)))
       → (M ≤ 2 * k + 1 → a ≡ n) → (M ≤ 2 * k + 2 → m ≡ n) → Node e a t (innerOf M node k)
@@ -82,7 +94,7 @@ module _ (e : ℕ → ℤ) (near : (k : ℕ) → StepsByOne e k) where
           let w : t ≡ a = omega arith in
           rw (← inner-none M node k i) (empty w refl)
 
--- ---- the bit at which node k begins, h levels above the leaves
+-- ---- the position at which the stretch of node k at height h begins
 unfoldable pub startOf : ℕ → ℕ → ℕ → ℕ → ℕ
 startOf n B h k = blockAt n B (reach h k - suc (innerFor (leaves n B)))
 
@@ -116,13 +128,13 @@ module _ (n B : ℕ) (pB : 0 < B) where
   inside h k p = omega (arith, place-inner (top n B) h k p, inner-top (leaves n B))
 
   module _ (some : 0 < n) where
-    -- where no node stands, no bit is left
+    -- the stretch of a node that does not exist begins at n, so it is empty
     pub absent : (h k : ℕ) → Place (top n B) h k → count n B ≤ k → startOf n B h k ≡ n
     unfolding startOf
     absent zero k p a = block-out n B pB (reach 0 k - suc (innerFor (leaves n B))) (omega (arith, reach-zero k, count-is n B some))
     absent (suc h) k p a = absurd (omega (arith, inside h k p, count-is n B some))
 
-    -- leaf b has the numbers of the bits of its block
+    -- block leaf b has the summary of the bits of its block
     leaf-node : (ws : List ℕ) (b : ℕ) → b < leaves n B → Node (E ws) (blockAt n B b) (blockAt n B (suc b)) (leafOf ws n B b)
     unfolding leafOf
     leaf-node ws b h =
@@ -186,7 +198,7 @@ module _ (ws : List ℕ) (n : ℕ) (s : List ℤ) (B : ℕ) (pB : 0 < B) (some :
       strict : a < n → a < m
       strict = rw (ea, s₂) at (start-lt n B pB h (2 * k + 1) pl)
 
-  -- a node whose stretch begins before n
+  -- a node whose stretch begins before n exists, and its stretch has a bit
   pub solid : (h k : ℕ) → Place (top n B) h k → k₀ ≤ k → startOf n B h k < n
       → (k < count n B) × Full (E ws) (startOf n B h k) (startOf n B h (suc k)) (nodeAt s k)
   solid h k p o l = (i, go (covers h k p o i))
@@ -198,7 +210,7 @@ module _ (ws : List ℕ) (n : ℕ) (s : List ℤ) (B : ℕ) (pB : 0 < B) (some :
       go (full f) = f
       go (empty q w) = absurd (omega (arith, start-lt n B pB h k p l))
 
-  -- a node's three numbers are those of its stretch of bits
+  -- the three entries of a node are the summary of its stretch
   pub node-is : (h k : ℕ) → Place (top n B) h k → k₀ ≤ k → k < count n B → nodeAt s k ≡ summaryOf (bitAt ws) (startOf n B h k) (startOf n B h (suc k) - startOf n B h k)
   unfolding summaryOf
   node-is h k p o i = go (covers h k p o i) (start-mono n B pB h k)
@@ -210,7 +222,7 @@ module _ (ws : List ℕ) (n : ℕ) (s : List ℤ) (B : ℕ) (pB : 0 < B) (some :
           full-only (E ws) a t x (summaryOf (bitAt ws) a (t - a)) f (rw q at (summary-full (bitAt ws) a (t - a) (omega arith)))
       go {a} {t} {x} (empty q w) l = let z : t - a ≡ 0 = omega arith in rw z w
 
-  pub ruled-tame : n ≤ 4294967296 → (k : ℕ) → k₀ ≤ k → k < count n B → Tame (nodeAt s k)
+  pub ruled-tame : n ≤ maxBits → (k : ℕ) → k₀ ≤ k → k < count n B → Tame (nodeAt s k)
   ruled-tame short k o i =
       let p = place-of (top n B) k (omega (arith, inner-top (leaves n B), inner-room (leaves n B), count-is n B some)) in
       let a = startOf n B (p .0) k in

@@ -1,8 +1,11 @@
--- Nodes by cases, and how a node depends on those after it.
---   inner-both, inner-left, inner-none: an inner node with two children, one or none
---   from-inner, from-leaf: node k below I, and from I on
---   inner-ext, from-ext: only the nodes after k matter to node k
---   put-length, node-put, other-number, node-other: the buffer with other numbers for one node
+-- Laws of one min-max node: its entries by cases, the nodes on which they depend, and a write to the buffer.
+--   inner-both, inner-left, inner-none: an inner node with two children, with a left child only, and without children
+--   inner-ext: an inner node depends only on its children
+--   from-inner, from-leaf: a node below I is an inner node, a node from I on is a block leaf
+--   from-ext: a node depends only on nodes with greater indices
+--   put-length: a write to node k keeps the length of the buffer
+--   node-put: after the write, node k has the written entries
+--   other-number, node-other: the write changes no other entry and no other node
 -- Assumes nothing.
 use mathlib.Core.Path.{_≡_, refl, sym, ap, ap₂, _∙_}
 use mathlib.Core.Bool.{Bool, true, false, cond}
@@ -19,7 +22,7 @@ use Rattle.bits_stretch.specs.Summary.{none, joinOf}
 use Rattle.mmt_layout.specs.Layout.{width, inner, count}
 use Rattle.mmt_node.specs.Nodes.{nodeAt, withNode, leafOf, innerOf, nodeFrom}
 
--- ---- an inner node of m
+-- ---- an inner node of a tree with m nodes
 module _ (m : ℕ) (node : ℕ → Summary) (k : ℕ) where
   pub inner-both : 2 * k + 2 < m → joinOf (node (2 * k + 1)) (node (2 * k + 2)) ≡ innerOf m node k
   unfolding innerOf
@@ -57,12 +60,12 @@ from-ext ws n B k f g p =
     ap (λ (x : Summary). cond (ltb k (inner n B)) x (leafOf ws n B (k - inner n B)))
     (inner-ext (count n B) k f g (p (2 * k + 1) (omega arith)) (p (2 * k + 2) (omega arith)))
 
--- ---- the buffer with other numbers for node k
+-- ---- the buffer after a write to node k
 module _ (s : List ℤ) (k : ℕ) (x : Summary) where
   pub put-length : length (withNode s k x) ≡ length s
   put-length = simp length-set
 
-  -- the buffer after the first number, and after the second
+  -- the buffer after the first entry is written, and after the second
   abbrev s₁ : List ℤ
   s₁ = set s (width * k) (x .total)
 
@@ -79,7 +82,7 @@ module _ (s : List ℤ) (k : ℕ) (x : Summary) where
       let r : getD (withNode s k x) (width * k + 2) (pos 0) ≡ x .greatest = getD-set-same s₂ (width * k + 2) (x .greatest) (pos 0) (simp length-set (omega arith)) in
       λ i. record { total = p i; least = q i; greatest = r i }
 
-  -- a number that is none of node k's
+  -- an entry that does not belong to node k is unchanged
   pub other-number : (i : ℕ) → (i ≡ width * k → ⊥) → (i ≡ width * k + 1 → ⊥) → (i ≡ width * k + 2 → ⊥) → getD (withNode s k x) i (pos 0) ≡ getD s i (pos 0)
   other-number i p q r =
       getD-set-other s₂ (width * k + 2) i (x .greatest) (pos 0) r ∙ getD-set-other s₁ (width * k + 1) i (x .least) (pos 0) q ∙ getD-set-other s (width * k) i (x .total) (pos 0) p

@@ -1,8 +1,16 @@
--- The numbers that a build writes, and that no other buffer is as built.
---   of-stable, of-rule: a node by itself does not depend on the steps allowed, and meets its rule
---   ruled-of: nodes as built are the nodes by themselves; ruled-same: two buffers as built agree
---   node-listed, listed-length: a list of nodes; same-numbers: buffers with the same nodes have the same numbers
---   written-length, written-is: the buffer that is written; written-built: it is as built
+-- The entries that a build writes. Every buffer as built begins with exactly these entries.
+--   of-stable: `nodeOf` does not depend on the depth of its recursion, if it is deep enough
+--   node: `nodeOf` with a depth that is enough for every node
+--   of-rule: `node` gives each node its required entries
+--   ruled-of: nodes from k₀ on that have their required entries equal `node`
+--   of-ruled: in a buffer whose nodes all equal `node`, each node has its required entries
+--   ruled-same: two buffers in which each node has its required entries have the same nodes
+--   listed-length, node-listed: the length of a list of entries, and the nodes in it
+--   same-numbers: two buffers with the same nodes have the same entries
+--   written-length: a build writes 3(L + I) entries
+--   written-node: the written entries contain the nodes `node`
+--   written-built: the written entries, followed by any other entries, are as built
+--   written-is: a buffer with the nodes `node` and an unchanged rest consists of the written entries and that rest
 -- Assumes nothing.
 use mathlib.Core.Path.{_≡_, refl, sym, ap, _∙_}
 use mathlib.Core.List.{List, _++_}
@@ -18,7 +26,7 @@ use Rattle.mmt_layout.specs.Layout.{width, count}
 use Rattle.mmt_node.specs.Nodes.{nodeAt, nodeFrom, Ruled, AsBuilt, nodeOf, listed, written}
 use Rattle.mmt_node.proofs.Nodes.{from-ext}
 
--- ---- a node by itself
+-- ---- a node computed without a buffer
 module _ (ws : List ℕ) (n B : ℕ) where
   pub of-stable : (f g k : ℕ) → count n B ≤ k + f → count n B ≤ k + g → k < count n B → nodeOf ws n B f k ≡ nodeOf ws n B g k
   unfolding nodeOf
@@ -68,7 +76,7 @@ node-listed node (suc c) k (suc j) h =
     let e : k + suc j ≡ suc k + j = omega arith in
     rw (q, r, p, e) (node-listed node c (suc k) j (omega arith))
 
--- ---- numbers and nodes
+-- ---- entries and nodes
 pub same-numbers : (s t : List ℤ) (m : ℕ) → ((k : ℕ) → k < m → nodeAt s k ≡ nodeAt t k) → (i : ℕ) → i < width * m → getD s i (pos 0) ≡ getD t i (pos 0)
 unfolding nodeAt
 same-numbers s t m h i l = go (i % 3) refl (h (i / 3) (omega arith))
@@ -99,7 +107,7 @@ module _ (ws : List ℕ) (n B : ℕ) where
       let r = f (width * k + 2) (omega arith) in
       (λ x. record { total = p x; least = q x; greatest = r x }) ∙ written-at k i
 
-  -- the numbers that are written, followed by what stood there
+  -- the written entries, followed by any other entries, are as built
   pub written-built : (rest : List ℤ) → AsBuilt ws n (written ws n B ++ rest) B
   written-built rest = record {
     long = (let l = written-length in simp length-append (omega arith));

@@ -1,5 +1,6 @@
-// One node: its three numbers in the buffer, and an inner node's from its children. A leaf's numbers, which are read off the bits, are
-// made by the layer above; what every node is to hold is defined here (specs/Nodes.antt).
+// One min-max node: reads and writes its three entries in the node buffer, and computes an inner node from its children.
+// specs/Nodes.antt defines the entries of every node. The crate mmt_build computes the block leaves from the bits.
+// No function here refuses. The caller passes a node that the buffer has room for.
 ghost use mathlib.Core.Path.{_≡_};
 ghost use Prim.Native.Nat.{ℕ, _+_, _*_, _<_, _≤_};
 ghost use lib.ListN.{length};
@@ -9,7 +10,7 @@ ghost use Rattle.mmt_node.specs.Nodes.{nodeAt, withNode, innerOf};
 use bits_stretch::Summary;
 use mmt_layout::WIDTH;
 
-// The numbers of node k.
+// Returns the three entries of node k.
 pub fn node_at(nodes: &[i64], k: usize) -> Summary
     requires { ⌜ width * (k + 1) ≤ length (now nodes) ⌝ }
     ensures { λ x. ⌜ x ≡ nodeAt (now (nodes .entry)) k ⌝ }
@@ -22,7 +23,7 @@ pub fn node_at(nodes: &[i64], k: usize) -> Summary
     }
 }
 
-// Node k gets the numbers x.
+// Writes the summary x to the three entries of node k.
 pub fn put_node(nodes: &mut [i64], k: usize, x: Summary)
     requires { ⌜ width * (k + 1) ≤ length (now nodes) ⌝ }
     ensures { λ r. ⌜ now (nodes .exit) ≡ withNode (now (nodes .entry)) k x ⌝ }
@@ -36,7 +37,8 @@ pub fn put_node(nodes: &mut [i64], k: usize, x: Summary)
     nodes[at + 2] = greatest;
 }
 
-// The numbers of inner node k, from its children: joined, the left alone, or none.
+// Returns the required entries of inner node k: the join of its two children, a copy of an only child, or (0, 0, 0) without children.
+// The entries of the nodes after k must be small, so that the sums of a join fit into an i64.
 pub fn inner_summary(nodes: &[i64], count: usize, k: usize) -> Summary
     requires { ⌜ (width * count ≤ length (now nodes)) × (k < count) ⌝ }
     requires { ⌜ ((j : ℕ) → k < j → j < count → Tame (nodeAt (now nodes) j)) ⌝ }

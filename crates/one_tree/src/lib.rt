@@ -8,6 +8,7 @@ ghost use mathlib.Core.Bool.{_&&_};
 ghost use lib.IntN.{pos};
 ghost use lib.ListN.{length};
 ghost use lib.Signed.{ltZ};
+ghost use Rattle.row.specs.Limits.{maxBits};
 ghost use Rattle.ints.specs.Order.{eqZ};
 ghost use Rattle.row.specs.Bits.{bitAt};
 ghost use Rattle.row.specs.Answer.{paperTold};
@@ -21,7 +22,7 @@ use row::Told;
 
 // The numbers of all bits but the last.
 fn body_summary(words: &[u64], n: usize) -> Summary
-    requires { ⌜ (2 ≤ n) × (n ≤ 4294967296) × (n ≤ 64 * length (now words)) ⌝ }
+    requires { ⌜ (2 ≤ n) × (n ≤ maxBits) × (n ≤ 64 * length (now words)) ⌝ }
     ensures { λ x. ⌜ x ≡ summaryOf (bitAt (now (words .entry))) 0 (n - 1) ⌝ }
 {
     let t = bits_lookup::table();
@@ -37,7 +38,7 @@ fn is_body(x: Summary) -> bool
 
 // Two bits at least, of which the last closes what the others leave open.
 fn is_one_tree(words: &[u64], n: usize) -> bool
-    requires { ⌜ (n ≤ 4294967296) × (n ≤ 64 * length (now words)) ⌝ }
+    requires { ⌜ (n ≤ maxBits) × (n ≤ 64 * length (now words)) ⌝ }
     ensures { λ b. ⌜ b ≡ oneTree (now (words .entry)) n ⌝ }
 {
     if n < 2 {

@@ -1,5 +1,6 @@
 // The calls on levels over byte slices, for rows of up to 4,096 bits.
-// Each is one question, and promises what the call that answers it promises of the words and numbers that the bytes hold.
+//
+// Each function makes one request. Its promise is that of the call, over the words and node numbers that the bytes encode.
 ghost use mathlib.Core.Path.{_≡_};
 ghost use Rattle.bp_spec.specs.declared.question.Question.the-variants.{LevelAncestor, LevelNext, LevelPrev, LevelLeftmost, LevelRightmost};
 ghost use Rattle.bp_spec.specs.Questions.{promised};
@@ -7,7 +8,7 @@ ghost use Rattle.c_dispatch.specs.Bytes.{byteAnswer};
 use bp_spec::Question;
 use c_dispatch::Request;
 
-// level_ancestor(node, level).
+// Answers `level_ancestor(node, level)`.
 #[no_mangle]
 pub extern "C" fn bp_level_ancestor(
     row: &[u8],
@@ -28,7 +29,7 @@ pub extern "C" fn bp_level_ancestor(
     )
 }
 
-// level_next(node).
+// Answers `level_next(node)`.
 #[no_mangle]
 pub extern "C" fn bp_level_next(row: &[u8], bits: u64, nodes: &[u8], block: u64, node: u64) -> i64
     ensures { λ a. ⌜ a ≡ byteAnswer promised (now (row .entry)) bits (now (nodes .entry)) block (LevelNext node) ⌝ }
@@ -42,7 +43,7 @@ pub extern "C" fn bp_level_next(row: &[u8], bits: u64, nodes: &[u8], block: u64,
     )
 }
 
-// level_prev(node).
+// Answers `level_prev(node)`.
 #[no_mangle]
 pub extern "C" fn bp_level_prev(row: &[u8], bits: u64, nodes: &[u8], block: u64, node: u64) -> i64
     ensures { λ a. ⌜ a ≡ byteAnswer promised (now (row .entry)) bits (now (nodes .entry)) block (LevelPrev node) ⌝ }
@@ -56,7 +57,7 @@ pub extern "C" fn bp_level_prev(row: &[u8], bits: u64, nodes: &[u8], block: u64,
     )
 }
 
-// level_leftmost(level).
+// Answers `level_leftmost(level)`.
 #[no_mangle]
 pub extern "C" fn bp_level_leftmost(
     row: &[u8],
@@ -76,7 +77,7 @@ pub extern "C" fn bp_level_leftmost(
     )
 }
 
-// level_rightmost(level).
+// Answers `level_rightmost(level)`.
 #[no_mangle]
 pub extern "C" fn bp_level_rightmost(
     row: &[u8],

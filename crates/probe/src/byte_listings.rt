@@ -1,10 +1,12 @@
-// The listings over byte slices, for rows of up to 4,096 bits: the answer of each step as eight bytes, up to and with the first
-// nothing or until out has no room for eight more; what stood past them stays. A refused making leaves all bytes.
+// The listings over byte slices, for rows of up to 4,096 bits.
+//
+// Each answer is written as eight bytes, up to and with the first `nothing`, or until fewer than eight bytes of `out` are left. Bytes after
+// the answers are unchanged. A refused constructor leaves all bytes unchanged.
 ghost use mathlib.Core.Path.{_≡_};
 ghost use mathlib.Core.Bool.{true, false};
 ghost use Rattle.c_listings.specs.Listings.{listWire, listLeft};
 
-// The children of a node, from the first to the last.
+// Writes the children of `node` from the first to the last. Returns the number of answers written, or the refusal.
 #[no_mangle]
 pub extern "C" fn bp_children(
     row: &[u8],
@@ -20,7 +22,7 @@ pub extern "C" fn bp_children(
     c_listings::to_bytes(row, bits, nodes, block, true, node, out)
 }
 
-// The children of a node, from the last to the first.
+// Writes the children of `node` from the last to the first. Returns the number of answers written, or the refusal.
 #[no_mangle]
 pub extern "C" fn bp_rev_children(
     row: &[u8],

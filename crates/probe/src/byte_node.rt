@@ -1,5 +1,6 @@
-// The calls on nodes over byte slices, for rows of up to 4,096 bits.
-// Each is one question, and promises what the call that answers it promises of the words and numbers that the bytes hold.
+// The calls on outline nodes over byte slices, for rows of up to 4,096 bits.
+//
+// Each function makes one request. Its promise is that of the call, over the words and node numbers that the bytes encode.
 ghost use mathlib.Core.Path.{_≡_};
 ghost use Rattle.bp_spec.specs.declared.question.Question.the-variants.{Root, FirstChild, IsLeaf, Parent, LastChild, NextSibling, PreviousSibling};
 ghost use Rattle.bp_spec.specs.Questions.{promised};
@@ -7,7 +8,7 @@ ghost use Rattle.c_dispatch.specs.Bytes.{byteAnswer, rowAnswer};
 use bp_spec::Question;
 use c_dispatch::Request;
 
-// root(): 0, nothing on the empty row.
+// Answers `root()`: 0, or nothing on an empty row.
 #[no_mangle]
 pub extern "C" fn bp_root(row: &[u8], bits: u64) -> i64
     ensures { λ a. ⌜ a ≡ rowAnswer promised (now (row .entry)) bits Root ⌝ }
@@ -15,7 +16,7 @@ pub extern "C" fn bp_root(row: &[u8], bits: u64) -> i64
     c_dispatch::over_row(row, bits, Request::Call(Question::Root))
 }
 
-// first_child(node).
+// Answers `first_child(node)`.
 #[no_mangle]
 pub extern "C" fn bp_first_child(row: &[u8], bits: u64, node: u64) -> i64
     ensures { λ a. ⌜ a ≡ rowAnswer promised (now (row .entry)) bits (FirstChild node) ⌝ }
@@ -27,7 +28,7 @@ pub extern "C" fn bp_first_child(row: &[u8], bits: u64, node: u64) -> i64
     )
 }
 
-// is_leaf(node): 1 or 0.
+// Answers `is_leaf(node)`: 1 or 0.
 #[no_mangle]
 pub extern "C" fn bp_is_leaf(row: &[u8], bits: u64, node: u64) -> i64
     ensures { λ a. ⌜ a ≡ rowAnswer promised (now (row .entry)) bits (IsLeaf node) ⌝ }
@@ -35,7 +36,7 @@ pub extern "C" fn bp_is_leaf(row: &[u8], bits: u64, node: u64) -> i64
     c_dispatch::over_row(row, bits, Request::Call(Question::IsLeaf(node as usize)))
 }
 
-// parent(node).
+// Answers `parent(node)`.
 #[no_mangle]
 pub extern "C" fn bp_parent(row: &[u8], bits: u64, nodes: &[u8], block: u64, node: u64) -> i64
     ensures { λ a. ⌜ a ≡ byteAnswer promised (now (row .entry)) bits (now (nodes .entry)) block (Parent node) ⌝ }
@@ -49,7 +50,7 @@ pub extern "C" fn bp_parent(row: &[u8], bits: u64, nodes: &[u8], block: u64, nod
     )
 }
 
-// last_child(node).
+// Answers `last_child(node)`.
 #[no_mangle]
 pub extern "C" fn bp_last_child(row: &[u8], bits: u64, nodes: &[u8], block: u64, node: u64) -> i64
     ensures { λ a. ⌜ a ≡ byteAnswer promised (now (row .entry)) bits (now (nodes .entry)) block (LastChild node) ⌝ }
@@ -63,7 +64,7 @@ pub extern "C" fn bp_last_child(row: &[u8], bits: u64, nodes: &[u8], block: u64,
     )
 }
 
-// next_sibling(node).
+// Answers `next_sibling(node)`.
 #[no_mangle]
 pub extern "C" fn bp_next_sibling(row: &[u8], bits: u64, nodes: &[u8], block: u64, node: u64) -> i64
     ensures { λ a. ⌜ a ≡ byteAnswer promised (now (row .entry)) bits (now (nodes .entry)) block (NextSibling node) ⌝ }
@@ -77,7 +78,7 @@ pub extern "C" fn bp_next_sibling(row: &[u8], bits: u64, nodes: &[u8], block: u6
     )
 }
 
-// previous_sibling(node).
+// Answers `previous_sibling(node)`.
 #[no_mangle]
 pub extern "C" fn bp_previous_sibling(
     row: &[u8],

@@ -1,5 +1,6 @@
 // The searches over byte slices, for rows of up to 4,096 bits.
-// Each is one question, and promises what the call that answers it promises of the words and numbers that the bytes hold.
+//
+// Each function makes one request. Its promise is that of the call, over the words and node numbers that the bytes encode.
 ghost use mathlib.Core.Path.{_≡_};
 ghost use Rattle.bp_spec.specs.declared.question.Question.the-variants.{FwdSearch, BwdSearch, Open};
 ghost use Rattle.bp_spec.specs.Questions.{promised};
@@ -7,7 +8,7 @@ ghost use Rattle.c_dispatch.specs.Bytes.{byteAnswer};
 use bp_spec::Question;
 use c_dispatch::Request;
 
-// fwd_search(at, r).
+// Answers `fwd_search(at, r)`.
 #[no_mangle]
 pub extern "C" fn bp_fwd_search(
     row: &[u8],
@@ -28,7 +29,7 @@ pub extern "C" fn bp_fwd_search(
     )
 }
 
-// bwd_search(at, r).
+// Answers `bwd_search(at, r)`.
 #[no_mangle]
 pub extern "C" fn bp_bwd_search(
     row: &[u8],
@@ -49,7 +50,7 @@ pub extern "C" fn bp_bwd_search(
     )
 }
 
-// open(at), for any position.
+// Answers `open(at)` for any position.
 #[no_mangle]
 pub extern "C" fn bp_open(row: &[u8], bits: u64, nodes: &[u8], block: u64, at: u64) -> i64
     ensures { λ a. ⌜ a ≡ byteAnswer promised (now (row .entry)) bits (now (nodes .entry)) block (Open at) ⌝ }

@@ -1,5 +1,6 @@
-// The tests and the reader of text over byte slices, for rows of up to 4,096 bits.
-// Each test is one question, and promises what the call that answers it promises of the words and numbers that the bytes hold.
+// The two tests and the text reader over byte slices, for rows of up to 4,096 bits.
+//
+// Each test makes one request. Its promise is that of the test, over the words and node numbers that the bytes encode.
 ghost use mathlib.Core.Path.{_≡_};
 ghost use Rattle.one_tree.specs.OneTree.{oneTreeAnswer};
 ghost use Rattle.mmt_build.specs.Check.{asBuiltAnswer};
@@ -9,7 +10,7 @@ ghost use Rattle.wire.specs.Decoded.{rowWords, nodeNumbers};
 ghost use Rattle.c_dispatch.specs.Reader.{readWire, readBytes};
 use c_dispatch::Request;
 
-// Whether the row is one tree: 1 or 0.
+// Tests whether the row is one tree: 1 or 0.
 #[no_mangle]
 pub extern "C" fn bp_one_tree(row: &[u8], bits: u64) -> i64
     ensures { λ a. ⌜ a ≡ wireOf (oneTreeAnswer (rowWords (now (row .entry))) (wireBits bits)) ⌝ }
@@ -17,7 +18,7 @@ pub extern "C" fn bp_one_tree(row: &[u8], bits: u64) -> i64
     c_dispatch::over_row(row, bits, Request::OneTree)
 }
 
-// Whether the nodes are those that a build writes: 1 or 0.
+// Tests whether the node buffer is as built: 1 or 0.
 #[no_mangle]
 pub extern "C" fn bp_as_built(row: &[u8], bits: u64, nodes: &[u8], block: u64) -> i64
     ensures { λ a. ⌜ a ≡ wireOf (asBuiltAnswer (rowWords (now (row .entry))) (wireBits bits) (nodeNumbers (now (nodes .entry))) block) ⌝ }
@@ -25,7 +26,8 @@ pub extern "C" fn bp_as_built(row: &[u8], bits: u64, nodes: &[u8], block: u64) -
     c_dispatch::over_bytes(row, bits, nodes, block, Request::AsBuilt)
 }
 
-// The bits of a text: their count. Fills the words that they need; bytes past those stay, and a refusal leaves all.
+// Reads a text of at most 4,096 bytes into `row` and returns the bit count. Bytes after the needed words are unchanged; a refusal leaves all
+// bytes unchanged.
 #[no_mangle]
 pub extern "C" fn bp_read_text(text: &[u8], row: &mut [u8]) -> i64
     ensures { λ a. ⌜ a ≡ readWire (now (text .entry)) (now (row .entry)) ⌝ }

@@ -1,8 +1,8 @@
-// The calls that differential runs make, for other languages: `bp_` over byte slices, for rows of up to 4,096 bits, and `bpw_`
-// over words and numbers, for rows of any size.
+// The C functions for differential runs: `bp_` over byte slices, for rows of up to 4,096 bits, and `bpw_` over words and numbers, for rows of
+// up to 2^32 bits.
 //
-// A static library has the marked functions of one crate, so that all 44 stand here, and nothing else does: each is one call or two,
-// and what they share is `asking`, `lists` and `wire`. Each tests what it is lent: nothing has a `requires`. The answer is one i64.
+// A static library exports the marked functions of one crate, so all 44 functions are here. Each one makes one or two calls; the crates
+// c_dispatch, c_listings and wire have the code that they share. No function has a `requires`: each tests its arguments. The answer is one i64.
 mod byte_level;
 mod byte_listings;
 mod byte_node;

@@ -1,12 +1,13 @@
-// The calls on levels over words and numbers, for rows of any size, without a copy.
-// Each is one call of the crate that answers it, and promises what that promises.
+// The calls on levels over words and numbers, for rows of up to 2^32 bits, without a copy.
+//
+// Each function makes one call and has the promise of that call.
 ghost use mathlib.Core.Path.{_≡_};
 ghost use Rattle.bp_spec.specs.HandleCalls.{nodeAnswer};
 ghost use Rattle.bp_spec.specs.LevelCalls.{levelAncestor, levelNext, levelPrev};
 ghost use Rattle.bp_spec.specs.LevelEnds.{levelLeftmost, levelAnswer, rightmostAnswer};
 ghost use Rattle.wire.specs.Answer.{wireOf};
 
-// level_ancestor(node, level).
+// Answers `level_ancestor(node, level)`.
 #[no_mangle]
 pub extern "C" fn bpw_level_ancestor(
     words: &[u64],
@@ -28,7 +29,7 @@ pub extern "C" fn bpw_level_ancestor(
     ))
 }
 
-// level_next(node).
+// Answers `level_next(node)`.
 #[no_mangle]
 pub extern "C" fn bpw_level_next(
     words: &[u64],
@@ -42,7 +43,7 @@ pub extern "C" fn bpw_level_next(
     wire::found(bp::level_next(words, bits as usize, nodes, block as usize, node as usize))
 }
 
-// level_prev(node).
+// Answers `level_prev(node)`.
 #[no_mangle]
 pub extern "C" fn bpw_level_prev(
     words: &[u64],
@@ -56,7 +57,7 @@ pub extern "C" fn bpw_level_prev(
     wire::found(bp::level_prev(words, bits as usize, nodes, block as usize, node as usize))
 }
 
-// level_leftmost(level).
+// Answers `level_leftmost(level)`.
 #[no_mangle]
 pub extern "C" fn bpw_level_leftmost(
     words: &[u64],
@@ -70,7 +71,7 @@ pub extern "C" fn bpw_level_leftmost(
     wire::found(bp::level_leftmost(words, bits as usize, nodes, block as usize, level))
 }
 
-// level_rightmost(level).
+// Answers `level_rightmost(level)`.
 #[no_mangle]
 pub extern "C" fn bpw_level_rightmost(
     words: &[u64],

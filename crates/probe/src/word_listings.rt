@@ -1,13 +1,14 @@
-// The listings over words and numbers, for rows of any size, without a copy.
-// Each is one call of the crate that answers it, and promises what that promises: the answer of each step, up to and with the
-// first nothing or until out is full; what stood past them stays. A refused making leaves all numbers.
+// The listings over words and numbers, for rows of up to 2^32 bits, without a copy.
+//
+// Each function makes one call and has the promise of that call. The answer of each step is written, up to and with the first `nothing`, or
+// until `out` is full. Entries after the answers are unchanged. A refused constructor leaves all entries unchanged.
 ghost use mathlib.Core.Path.{_≡_};
 ghost use mathlib.Core.Bool.{true, false};
 ghost use lib.ListN.{length};
 ghost use Rattle.wire.specs.Answer.{wireOf};
 ghost use Rattle.list_slice.specs.WholeListing.{countOf, leftOf};
 
-// The children of a node, from the first to the last.
+// Writes the children of `node` from the first to the last. Returns the number of answers written, or the refusal.
 #[no_mangle]
 pub extern "C" fn bpw_children(
     words: &[u64],
@@ -23,7 +24,7 @@ pub extern "C" fn bpw_children(
     c_listings::to_numbers(words, bits, nodes, block, true, node, out)
 }
 
-// The children of a node, from the last to the first.
+// Writes the children of `node` from the last to the first. Returns the number of answers written, or the refusal.
 #[no_mangle]
 pub extern "C" fn bpw_rev_children(
     words: &[u64],

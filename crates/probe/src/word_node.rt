@@ -1,5 +1,6 @@
-// The calls on nodes over words and numbers, for rows of any size, without a copy.
-// Each is one call of the crate that answers it, and promises what that promises.
+// The calls on outline nodes over words and numbers, for rows of up to 2^32 bits, without a copy.
+//
+// Each function makes one call and has the promise of that call.
 ghost use mathlib.Core.Path.{_≡_};
 ghost use lib.ListN.{length};
 ghost use Rattle.row.specs.Gates.{rowGate, through};
@@ -9,7 +10,7 @@ ghost use Rattle.bp_spec.specs.AncestorCalls.{parent, ancestorAnswer};
 ghost use Rattle.bp_spec.specs.SiblingCalls.{lastChild, nextSibling, previousSibling};
 ghost use Rattle.wire.specs.Answer.{wireOf};
 
-// root(): 0, nothing on the empty row.
+// Answers `root()`: 0, or nothing on an empty row.
 #[no_mangle]
 pub extern "C" fn bpw_root(words: &[u64], bits: u64) -> i64
     ensures { λ a. ⌜ a ≡ wireOf (through (rowGate (length (now (words .entry))) bits) (root bits)) ⌝ }
@@ -17,7 +18,7 @@ pub extern "C" fn bpw_root(words: &[u64], bits: u64) -> i64
     wire::found(bp::root(words, bits as usize))
 }
 
-// first_child(node).
+// Answers `first_child(node)`.
 #[no_mangle]
 pub extern "C" fn bpw_first_child(words: &[u64], bits: u64, node: u64) -> i64
     ensures { λ a. ⌜ a ≡ wireOf (handleAnswer firstChild (now (words .entry)) bits node) ⌝ }
@@ -25,7 +26,7 @@ pub extern "C" fn bpw_first_child(words: &[u64], bits: u64, node: u64) -> i64
     wire::found(bp::first_child(words, bits as usize, node as usize))
 }
 
-// is_leaf(node): 1 or 0.
+// Answers `is_leaf(node)`: 1 or 0.
 #[no_mangle]
 pub extern "C" fn bpw_is_leaf(words: &[u64], bits: u64, node: u64) -> i64
     ensures { λ a. ⌜ a ≡ wireOf (handleAnswer isLeaf (now (words .entry)) bits node) ⌝ }
@@ -33,7 +34,7 @@ pub extern "C" fn bpw_is_leaf(words: &[u64], bits: u64, node: u64) -> i64
     wire::told(bp::is_leaf(words, bits as usize, node as usize))
 }
 
-// parent(node).
+// Answers `parent(node)`.
 #[no_mangle]
 pub extern "C" fn bpw_parent(words: &[u64], bits: u64, nodes: &[i64], block: u64, node: u64) -> i64
     ensures { λ a. ⌜ a ≡ wireOf (nodeAnswer parent (now (words .entry)) bits (now (nodes .entry)) block node) ⌝ }
@@ -41,7 +42,7 @@ pub extern "C" fn bpw_parent(words: &[u64], bits: u64, nodes: &[i64], block: u64
     wire::found(bp::parent(words, bits as usize, nodes, block as usize, node as usize))
 }
 
-// last_child(node).
+// Answers `last_child(node)`.
 #[no_mangle]
 pub extern "C" fn bpw_last_child(
     words: &[u64],
@@ -55,7 +56,7 @@ pub extern "C" fn bpw_last_child(
     wire::found(bp::last_child(words, bits as usize, nodes, block as usize, node as usize))
 }
 
-// next_sibling(node).
+// Answers `next_sibling(node)`.
 #[no_mangle]
 pub extern "C" fn bpw_next_sibling(
     words: &[u64],
@@ -69,7 +70,7 @@ pub extern "C" fn bpw_next_sibling(
     wire::found(bp::next_sibling(words, bits as usize, nodes, block as usize, node as usize))
 }
 
-// previous_sibling(node).
+// Answers `previous_sibling(node)`.
 #[no_mangle]
 pub extern "C" fn bpw_previous_sibling(
     words: &[u64],
@@ -83,7 +84,7 @@ pub extern "C" fn bpw_previous_sibling(
     wire::found(bp::previous_sibling(words, bits as usize, nodes, block as usize, node as usize))
 }
 
-// is_ancestor(ancestor, descendant): 1 or 0, nothing where the ancestor has no close.
+// Answers `is_ancestor(ancestor, descendant)`: 1 or 0, or nothing if the ancestor has no close.
 #[no_mangle]
 pub extern "C" fn bpw_is_ancestor(
     words: &[u64],

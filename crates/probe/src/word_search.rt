@@ -1,5 +1,6 @@
-// The build and the searches over words and numbers, for rows of any size, without a copy.
-// Each is one call of the crate that answers it, and promises what that promises.
+// The build and the searches over words and numbers, for rows of up to 2^32 bits, without a copy.
+//
+// Each function makes one call and has the promise of that call.
 ghost use mathlib.Core.Path.{_≡_};
 ghost use lib.IntN.{negsuc};
 ghost use lib.ListN.{length};
@@ -10,7 +11,7 @@ ghost use Rattle.mmt_build.specs.Build.{builtNodes};
 ghost use Rattle.bp_spec.specs.SearchCalls.{fwdAnswer, bwdAnswer, outward};
 ghost use Rattle.wire.specs.Answer.{wireOf};
 
-// Writes the nodes of the row's bits; numbers past them stay. A refusal leaves all numbers.
+// Builds the min-max nodes of the row and writes them to `nodes`. Entries after the nodes are unchanged; a refusal leaves all unchanged.
 #[no_mangle]
 pub extern "C" fn bpw_build(words: &[u64], bits: u64, nodes: &mut [i64], block: u64) -> i64
     ensures { λ a. ⌜ a ≡ wireOf (through (nodesGate (length (now (words .entry))) bits (length (now (nodes .entry))) block) (answer.at 0)) ⌝ }
@@ -19,7 +20,7 @@ pub extern "C" fn bpw_build(words: &[u64], bits: u64, nodes: &mut [i64], block: 
     wire::built(mmt_build::build(words, bits as usize, nodes, block as usize))
 }
 
-// fwd_search(at, r).
+// Answers `fwd_search(at, r)`.
 #[no_mangle]
 pub extern "C" fn bpw_fwd_search(
     words: &[u64],
@@ -34,7 +35,7 @@ pub extern "C" fn bpw_fwd_search(
     wire::found(bp::fwd_search(words, bits as usize, nodes, block as usize, at as usize, r))
 }
 
-// bwd_search(at, r).
+// Answers `bwd_search(at, r)`.
 #[no_mangle]
 pub extern "C" fn bpw_bwd_search(
     words: &[u64],
@@ -49,7 +50,7 @@ pub extern "C" fn bpw_bwd_search(
     wire::found(bp::bwd_search(words, bits as usize, nodes, block as usize, at as usize, r))
 }
 
-// close(at), for any position.
+// Answers `close(at)` for any position.
 #[no_mangle]
 pub extern "C" fn bpw_close(words: &[u64], bits: u64, nodes: &[i64], block: u64, at: u64) -> i64
     ensures { λ a. ⌜ a ≡ wireOf (fwdAnswer (now (words .entry)) bits (now (nodes .entry)) block at (negsuc 0)) ⌝ }
@@ -57,7 +58,7 @@ pub extern "C" fn bpw_close(words: &[u64], bits: u64, nodes: &[i64], block: u64,
     wire::found(bp::close(words, bits as usize, nodes, block as usize, at as usize))
 }
 
-// open(at), for any position.
+// Answers `open(at)` for any position.
 #[no_mangle]
 pub extern "C" fn bpw_open(words: &[u64], bits: u64, nodes: &[i64], block: u64, at: u64) -> i64
     ensures { λ a. ⌜ a ≡ wireOf (bwdAnswer (now (words .entry)) bits (now (nodes .entry)) block at (negsuc 0)) ⌝ }
@@ -65,7 +66,7 @@ pub extern "C" fn bpw_open(words: &[u64], bits: u64, nodes: &[i64], block: u64, 
     wire::found(bp::open(words, bits as usize, nodes, block as usize, at as usize))
 }
 
-// enclose(at), for any position.
+// Answers `enclose(at)` for any position.
 #[no_mangle]
 pub extern "C" fn bpw_enclose(words: &[u64], bits: u64, nodes: &[i64], block: u64, at: u64) -> i64
     ensures { λ a. ⌜ a ≡ wireOf (bwdAnswer (now (words .entry)) bits (now (nodes .entry)) block at (outward (now (words .entry)) bits at)) ⌝ }

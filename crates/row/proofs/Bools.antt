@@ -1,6 +1,9 @@
--- Laws of tests.
---   and-left, and-right, and-both: what a test of two things says of each, and what the two make of it
---   not-yes: a test that does not pass is false; is-true: a test that passes is true; same-test: two tests that are true together are one
+-- Laws of Boolean tests.
+--   and-left, and-right: if `a && b` is true, so is a (b)
+--   and-both: if a and b are true, so is `a && b`
+--   not-yes: a test that is not true is false
+--   is-true: a test that passes equals true
+--   same-test: two tests that are true in the same cases are equal
 -- Assumes nothing.
 use mathlib.Core.Path.{_≡_, refl, sym}
 use mathlib.Core.Bool.{Bool, true, false, _&&_, and-eq-true-iff}

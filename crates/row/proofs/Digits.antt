@@ -1,6 +1,11 @@
--- Digits of numbers, and the bits of a row by words and by bytes.
---   digit-lt, digit-low, digit-shr, digit-suc: one digit; of the low digits; of a number shifted right; the next
---   word-bits, byte-bits: bit 64 i + k is digit k of word i, bit 8 q + k digit k of byte q; byte-of: the same for the bytes of a word
+-- Binary digits of a number, and the bits of a row by words and by bytes.
+--   digit-lt: a digit is below 2
+--   digit-low: reducing a number modulo 2^m keeps its digits below m
+--   digit-shr: digit k of a number shifted right by s is digit s + k of the number
+--   digit-suc: digit k + 1 of a number is digit k of its half
+--   byte-of: digit k of byte q of a word is digit 8q + k of the word
+--   word-bits: digit k of word i is bit 64i + k of the row
+--   byte-bits: digit k of byte q is bit 8q + k of the row
 -- Assumes nothing.
 use mathlib.Core.Path.{_≡_, sym, ap, ap₂, _∙_}
 use mathlib.Core.List.{List}

@@ -1,8 +1,12 @@
 -- Laws of the excess.
---   sign-close, sign-open: what a bit adds, by its value
---   sign-size, excess-size: a bit moves it by 1, k bits by k at most; Near, steps: two neighbours differ by 1 at most
---   excess-add: the bits from a on count apart; excess-ext: only the bits counted matter
---   excess-ones: the excess of a number's digits is its ones less its zeros
+--   sign-close, sign-open: a close bit adds -1, an open bit adds 1
+--   sign-size: what a bit adds has the size 1
+--   StepsByOne: the claim that e(k) and e(k + 1) differ by at most 1
+--   steps: the excess satisfies this claim
+--   excess-size: the excess of k bits has a size of at most k
+--   excess-add: the excess of a + k bits is that of the first a plus that of the other k
+--   excess-ext: the excess depends only on the bits that it counts
+--   excess-ones: the excess of the digits of a number is its ones minus its zeros
 -- Assumes nothing.
 use mathlib.Core.Path.{_≡_, refl, ap, ap₂}
 use Prim.Native.Nat.{ℕ, zero, suc, _+_, _-_, _/_, _%_, _^_, _≤_, _<_}
@@ -35,7 +39,7 @@ unfolding sign
 sign-size zero = refl
 sign-size (suc b) = refl
 
--- two neighbours
+-- From k to k + 1 the value of e rises by at most 1 and falls by at most 1.
 pub record StepsByOne (e : ℕ → ℤ) (k : ℕ) : Type 0 where
   pub rises : e (suc k) ≤ℤ (e k +ℤ pos 1)
   pub falls : e k ≤ℤ (e (suc k) +ℤ pos 1)
@@ -63,7 +67,7 @@ unfolding excess
 excess-ext f g zero h = refl
 excess-ext f g (suc k) h = ap₂ (λ (x : ℤ) (b : ℕ). x +ℤ sign b) (excess-ext f g k (λ j l. h j (omega arith))) (h k (omega arith))
 
--- ---- by counts
+-- ---- the excess by counting ones and zeros
 sign-count : (b : ℕ) → b < 2 → sign b ≡ pos b -ℤ pos (1 - b)
 unfolding sign
 sign-count zero h = refl

@@ -1,7 +1,15 @@
--- The first position of a stretch a..t after which the excess is v.
---   first-is: what it is; first-split, first-left, first-right: over two stretches that meet
---   first-at, first-least, first-nothing, first-answers: what an answer says
---   first-none, first-empty, first-there: what is answered
+-- The first position after which the excess is v, in the stretch a..t. The stretch has the positions from a to t - 1.
+--   first: the search for this position; it answers nothing if there is none
+--   first-is: the answer is the least position with this property, or nothing and there is none
+--   first-split: the answer over a..t is the one over a..m, or the one over m..t if the first is nothing
+--   first-left, first-right: the two cases of first-split
+--   first-at: an answered position lies in the stretch, and the excess after it is v
+--   first-least: no earlier position of the stretch has the excess v after it
+--   first-nothing: if the answer is nothing, no position of the stretch has the excess v after it
+--   first-answers: the answer is never a refusal
+--   first-none: if no position of the stretch has the excess v after it, the answer is nothing
+--   first-empty: over an empty stretch the answer is nothing
+--   first-there: if some position of the stretch has the excess v after it, the answer is a position
 -- Assumes nothing.
 use mathlib.Core.Path.{_≡_, refl}
 use Prim.Native.Nat.{ℕ, suc, _-_, _≤_, _<_}

@@ -1,7 +1,15 @@
--- The last position of a stretch a..t before which the excess is v.
---   last-is: what it is; last-split, last-right, last-left: over two stretches that meet
---   last-at, last-greatest, last-nothing, last-answers: what an answer says
---   last-none, last-empty, last-there: what is answered
+-- The last position before which the excess is v, in the stretch a..t. The stretch has the positions from a to t - 1.
+--   last: the search for this position; it answers nothing if there is none
+--   last-is: the answer is the greatest position with this property, or nothing and there is none
+--   last-split: the answer over a..t is the one over m..t, or the one over a..m if the first is nothing
+--   last-right, last-left: the two cases of last-split
+--   last-at: an answered position lies in the stretch, and the excess before it is v
+--   last-greatest: no later position of the stretch has the excess v before it
+--   last-nothing: if the answer is nothing, no position of the stretch has the excess v before it
+--   last-answers: the answer is never a refusal
+--   last-none: if no position of the stretch has the excess v before it, the answer is nothing
+--   last-empty: over an empty stretch the answer is nothing
+--   last-there: if some position of the stretch has the excess v before it, the answer is a position
 -- Assumes nothing.
 use mathlib.Core.Path.{_≡_, refl}
 use Prim.Native.Nat.{ℕ, _-_, _≤_, _<_}

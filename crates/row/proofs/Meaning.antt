@@ -1,7 +1,12 @@
--- The two searches as relations, in document 01's words: the searches as computed meet them, and they leave one answer.
---   nearest-ext: only which positions have the property matters
---   fwd-first, bwd-last, bwd-past: the searches as the first and the last position of a stretch
---   fwd-is, bwd-is: the searches meet the relations; fwd-only, bwd-only: these leave one answer
+-- The two searches as relations, as SCOPE, The two searches, states them. The computed searches satisfy the relations, and no other answer does.
+--   Ahead, Behind: position j fits the forward (backward) search from i for r
+--   IsFwd, IsBwd: the answer is the nearest position that fits, or nothing and none fits
+--   nearest-ext: if two properties hold of the same positions, they have the same nearest position
+--   fwd-first: a forward search answers the first fitting position of the stretch from i + 1 to n - 1
+--   bwd-last: for i < n a backward search answers the last fitting position of the stretch from 0 to i - 1
+--   bwd-past: for i >= n a backward search answers nothing
+--   fwd-is, bwd-is: the computed search satisfies its relation
+--   fwd-only, bwd-only: at most one answer satisfies the relation
 -- Assumes nothing.
 use mathlib.Core.Path.{_≡_, refl}
 use mathlib.Core.List.{List}
@@ -18,14 +23,14 @@ use Rattle.row.proofs.Nearest.{NearestBy, Least, Greatest, one-least, o
 use Rattle.row.proofs.First.{first, first-is}
 use Rattle.row.proofs.Last.{last, last-is}
 
--- fwd_search(i, r): least j with i < j < n and E(j+1) = E(i+1) + r; nothing if none, and when i >= n
+-- fwd_search(i, r): the smallest j with i < j < n and E(j+1) = E(i+1) + r. It is nothing if no such j exists, so also if i >= n.
 abbrev pub Ahead : List ℕ → ℕ → ℕ → ℤ → ℕ → Type 0
 Ahead ws n i r j = (i < j) × (j < n) × (E ws (suc j) ≡ E ws (suc i) +ℤ r)
 
 abbrev pub IsFwd : List ℕ → ℕ → ℕ → ℤ → Answer → Type 0
 IsFwd ws n i r = Least (Ahead ws n i r)
 
--- bwd_search(i, r): greatest j < i with E(j) = E(i) + r; nothing if none, and when i >= n
+-- bwd_search(i, r): the greatest j < i with E(j) = E(i) + r. It is nothing if no such j exists, and if i >= n.
 abbrev pub Behind : List ℕ → ℕ → ℕ → ℤ → ℕ → Type 0
 Behind ws n i r j = (i < n) × (j < i) × (E ws j ≡ E ws i +ℤ r)
 

@@ -1,7 +1,12 @@
--- The least and the greatest position with a property, as relations, and that the searches meet them.
---   one-least, one-greatest: each leaves one answer; some-at: where a position has the property, one is answered
---   join-least, join-greatest: over two stretches that meet
---   least-is, greatest-is: the searches, for a property that a test decides
+-- The least and the greatest position with a property, as relations. `least` and `greatest` of specs/Search.antt satisfy them.
+--   NearestBy: the answer is the position with property P that comes first in the order R, or nothing and there is none
+--   Least, Greatest: NearestBy in rising and in falling order
+--   InStretch: the position lies in a stretch and has a property
+--   orElse: the first answer, or the second one if the first is nothing
+--   some-at: if some position has the property, the answer is a position
+--   one-least, one-greatest: at most one answer satisfies the relation
+--   join-least, join-greatest: over two adjacent stretches, the answer is that of the one met first, or else that of the other
+--   least-is, greatest-is: `least` (`greatest`) satisfies the relation, for a property that a test decides
 -- Assumes nothing.
 use mathlib.Core.Path.{_≡_, refl, sym, ap, _∙_}
 use mathlib.Core.Bool.{Bool, true, false, cond, true≢false}
@@ -11,7 +16,7 @@ use native.Mathlib.Decide.{decLt}
 use Rattle.row.specs.Answer.{Answer, at, nothing, refused}
 use Rattle.row.specs.Search.{least, greatest}
 
--- the position with P before which R puts no other; nothing where there is none
+-- The answer is a position with property P, and no other one comes before it in the order R. It is nothing if there is none.
 abbrev pub NearestBy : (ℕ → ℕ → Type 0) → (ℕ → Type 0) → Answer → Type 0
 NearestBy R P (at j) = P j × ((k : ℕ) → P k → R k j → ⊥)
 NearestBy R P nothing = (k : ℕ) → P k → ⊥
@@ -23,11 +28,11 @@ Least = NearestBy (λ k j. k < j)
 abbrev pub Greatest : (ℕ → Type 0) → Answer → Type 0
 Greatest = NearestBy (λ k j. j < k)
 
--- k is in the stretch a..t and has Q
+-- Position k lies in the stretch from a to t - 1 and has property Q.
 abbrev pub InStretch : (ℕ → Type 0) → ℕ → ℕ → ℕ → Type 0
 InStretch Q a t k = (a ≤ k) × (k < t) × Q k
 
--- the first answer, or the second where that is nothing
+-- The first answer, or the second one if the first is nothing.
 abbrev pub orElse : Answer → Answer → Answer
 orElse (at j) y = at j
 orElse nothing y = y
@@ -48,7 +53,7 @@ module _ (R : ℕ → ℕ → Type 0) (P : ℕ → Type 0) where
   some-at nothing h k p = absurd (h k p)
   some-at (refused m) h k p = absurd h
 
-  -- S is P or Q, and each with P is before each with Q
+  -- A position has S if it has P or Q, and no position with Q comes before one with P.
   join : (Q S : ℕ → Type 0) → ((k : ℕ) → P k → S k) → ((k : ℕ) → Q k → S k) → ((k : ℕ) → S k → (P k → ⊥) → (Q k → ⊥) → ⊥) → ((j k : ℕ) → P j → Q k → R k j → ⊥) → (x y : Answer) → NearestBy R P x → NearestBy R Q y → NearestBy R S (orElse x y)
   join Q S p q s c (at j) y h g = (p j (h .0), λ k u b. s k u (λ v. h .1 k v b) (λ v. c j k (h .0) v b))
   join Q S p q s c nothing (at j) h g = (q j (g .0), λ k u b. s k u (h k) (λ v. g .1 k v b))

@@ -1,6 +1,11 @@
--- Bits at n and beyond, and surplus words, never matter.
---   E-same, fwd-same, bwd-same, oneTree-same, opens-same, closes-same: what is said of two rows with the same first n bits
---   bits-beyond, words-beyond: rows that differ only in bits from n on; a row and the same with more words
+-- Bits from position n on and surplus words never change what a definition gives.
+--   Same: two rows have the same first n bits
+--   E-same: two such rows have the same E(k) for every k up to n
+--   opens-same, closes-same: they have the same open (close) bits
+--   fwd-same, bwd-same: a search answers the same on both
+--   oneTree-same: the one-tree test says the same of both
+--   bits-beyond: two rows that differ only in bits from n on have the same first n bits
+--   words-beyond: a row, and the same row with words added at the end, have the same first n bits
 -- Assumes nothing.
 use mathlib.Core.Path.{_≡_, sym, ap, _∙_}
 use mathlib.Core.Bool.{_&&_}
@@ -22,7 +27,7 @@ use Rattle.row.proofs.Excess.{excess-ext}
 use Rattle.row.proofs.Meaning.{Ahead, Behind, nearest-ext, fwd-is, fwd-only, bwd-is, bwd-only}
 use Rattle.row.proofs.Tree.{oneTree-true, oneTree-yes}
 
--- the two rows have the same first n bits
+-- The two rows have the same first n bits.
 abbrev pub Same : List ℕ → List ℕ → ℕ → Type 0
 Same ws vs n = (k : ℕ) → k < n → bitAt ws k ≡ bitAt vs k
 
@@ -79,7 +84,7 @@ module _ (ws vs : List ℕ) (n : ℕ) (h : Same ws vs n) where
 low-bit : (ws : List ℕ) (n k : ℕ) → k / 64 ≡ n / 64 → k % 64 < n % 64 → bitAt ws k ≡ digit (getD ws (n / 64) 0 % 2 ^ (n % 64)) (k % 64)
 low-bit ws n k q l = rw q (sym (digit-low (getD ws (n / 64) 0) (n % 64) (k % 64) l))
 
--- the words before the one that holds bit n agree, and in that one the bits before bit n
+-- The premises: all words before the word of bit n are equal, and in that word all bits before bit n are equal.
 pub bits-beyond : (ws vs : List ℕ) (n : ℕ) → ((q : ℕ) → q < n / 64 → getD ws q 0 ≡ getD vs q 0) → getD ws (n / 64) 0 % 2 ^ (n % 64) ≡ getD vs (n / 64) 0 % 2 ^ (n % 64) → Same ws vs n
 bits-beyond ws vs n f e k l = elim (decLt (k / 64) (n / 64)) [
   | yes m ↦ ap (λ (w : ℕ). digit w (k % 64)) (f (k / 64) m)

@@ -1,7 +1,9 @@
 -- One tree, as a test and as a claim.
---   all-each, each-all: a test of all numbers below a bound
---   opens-low: a handle lies in the row
---   oneTree-true, oneTree-yes: what the test of a tree found, and what it finds
+--   all-each: if `allBelow p c` is true, p holds of every number below c
+--   each-all: if p holds of every number below c, `allBelow p c` is true
+--   oneTree-true: if the one-tree test says true, the row is one tree
+--   oneTree-yes: if the row is one tree, the one-tree test says true
+--   opens-low: a handle is below n
 -- Assumes nothing.
 use mathlib.Core.Path.{_≡_, refl}
 use mathlib.Core.Bool.{Bool, true, _&&_}
@@ -36,11 +38,11 @@ module _ (p : ℕ → Bool) where
   each-all (suc c) h = and-both (p c) (allBelow p c) (h c (omega arith)) (each-all c (λ k l. h k (omega arith)))
 
 module _ (ws : List ℕ) (n : ℕ) where
-  -- the tests of n and of E(n)
+  -- The tests of n >= 2 and of E(n) = 0.
   abbrev ends : Bool
   ends = leb 2 n && eqZ (E ws n) (pos 0)
 
-  -- the test of E(k + 1)
+  -- The test of E(k + 1) > 0.
   abbrev over : ℕ → Bool
   over k = ltZ (pos 0) (E ws (suc k))
 

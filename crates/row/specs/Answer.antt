@@ -1,4 +1,4 @@
--- What a call answers, on paper: a value, nothing, or the number of a refusal; and what each answer's enum means there.
+-- The specification answer of a call, and the specification answer that each case of an answer type means (SCOPE, Refusals).
 -- Assumes nothing.
 use Prim.Native.Nat.{ℕ}
 use Rattle.row.specs.declared.refusal.Refusal.{Refusal}
@@ -12,13 +12,14 @@ use Rattle.row.specs.declared.answer.Built.the-variants.{Done, Refused a
 use Rattle.row.specs.declared.answer.Read.{Read}
 use Rattle.row.specs.declared.answer.Read.the-variants.{Bits, Refused as RefusedRead}
 
--- the value of an answer is a position, a count of bits, 1 for yes, 0 for no or for a build done
+-- A specification answer is a value, nothing, or a refusal with its number. The value is a position or a count; yes is 1,
+-- no is 0, and the success of a build is 0.
 pub data Answer : Type 0 where
   at : ℕ → Answer
   nothing : Answer
   refused : ℕ → Answer
 
--- the numbers a caller can get back
+-- The number of each refusal.
 abbrev pub numberOf : Refusal → ℕ
 numberOf BlockSize = 1
 numberOf TooManyBits = 2
@@ -29,25 +30,25 @@ numberOf NotAParenthesis = 6
 numberOf NotOneTree = 7
 numberOf NodesMisfit = 8
 
--- a search or a step through the tree
+-- The specification answer of a search, and of every other call that returns a position.
 abbrev pub paperFound : Found → Answer
 paperFound (At i) = at i
 paperFound Nothing = nothing
 paperFound (Refused k) = refused (numberOf k)
 
--- a question
+-- The specification answer of a yes-or-no call: yes is the value 1, no is the value 0.
 abbrev pub paperTold : Told → Answer
 paperTold Yes = at 1
 paperTold No = at 0
 paperTold NothingTold = nothing
 paperTold (RefusedTold k) = refused (numberOf k)
 
--- a build of the nodes
+-- The specification answer of a build: success is the value 0.
 abbrev pub paperBuilt : Built → Answer
 paperBuilt Done = at 0
 paperBuilt (RefusedBuilt k) = refused (numberOf k)
 
--- a text that was read
+-- The specification answer of the text reader: the bit count.
 abbrev pub paperRead : Read → Answer
 paperRead (Bits n) = at n
 paperRead (RefusedRead k) = refused (numberOf k)

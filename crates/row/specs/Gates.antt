@@ -1,38 +1,39 @@
--- The tests that come before an answer, in document 01's order: 2, 3, then 5.
+-- The gates of a row and of a handle: refusals 2, 3 and 5, in this order (SCOPE, Refusals).
 -- Assumes nothing.
 use mathlib.Core.Bool.{cond}
 use mathlib.Core.List.{List}
 use Prim.Native.Nat.{ℕ, _+_, _/_}
 use lib.Dec.{leb}
+use Rattle.row.specs.Limits.{maxBits}
 use Rattle.row.specs.declared.refusal.Refusal.the-variants.{TooManyBits, TooFewWords, NotAHandle}
 use Rattle.row.specs.declared.gate.Gate.{Gate}
 use Rattle.row.specs.declared.gate.Gate.the-variants.{Pass, Refuse}
 use Rattle.row.specs.Answer.{Answer, refused, numberOf}
 use Rattle.row.specs.Tree.{opens}
 
--- the words that n bits need: n div 64, rounded up
+-- The number of words that n bits need: n div 64, rounded up.
 abbrev pub wordsFor : ℕ → ℕ
 wordsFor n = (n + 63) / 64
 
--- refusals 2 and 3, for n bits in w words
+-- Refusal 2 if n is above 2^32, then refusal 3 if the w words are fewer than n bits need.
 unfoldable pub rowGate : ℕ → ℕ → Gate
-rowGate w n = cond (leb n 4294967296) (cond (leb (wordsFor n) w) Pass (Refuse TooFewWords)) (Refuse TooManyBits)
+rowGate w n = cond (leb n maxBits) (cond (leb (wordsFor n) w) Pass (Refuse TooFewWords)) (Refuse TooManyBits)
 
--- refusal 5
+-- Refusal 5 if v is not a handle.
 unfoldable pub handleGate : List ℕ → ℕ → ℕ → Gate
 handleGate ws n v = cond (opens ws n v) Pass (Refuse NotAHandle)
 
--- the answer a where the tests before it are passed
+-- The answer of a call behind a gate: a if the gate passes, else the refusal of the gate.
 abbrev pub through : Gate → Answer → Answer
 through Pass a = a
 through (Refuse k) a = refused (numberOf k)
 
--- the tests of g, then those of h
+-- One gate after another: the first reason to refuse counts.
 abbrev pub andThen : Gate → Gate → Gate
 andThen Pass h = h
 andThen (Refuse k) h = Refuse k
 
--- what a call leaves: the new where the tests are passed, the old where it refuses
+-- What a slice contains after a call: `new` if the gate passes, `old` if it refuses.
 abbrev pub kept : {A : Type 0} → Gate → A → A → A
 kept Pass new old = new
 kept (Refuse k) new old = old

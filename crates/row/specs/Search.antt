@@ -1,4 +1,4 @@
--- The two searches, by definition.
+-- The two searches by definition (SCOPE, The two searches).
 -- Assumes nothing.
 use mathlib.Core.Bool.{Bool, cond}
 use mathlib.Core.List.{List}
@@ -9,28 +9,28 @@ use Rattle.ints.specs.Order.{eqZ}
 use Rattle.row.specs.Answer.{Answer, at, nothing}
 use Rattle.row.specs.Excess.{E}
 
--- the least j of the c numbers from a on with p j
+-- The smallest of the c numbers from a on that satisfies p, or nothing.
 unfoldable pub least : (ℕ → Bool) → ℕ → ℕ → Answer
 least p zero a = nothing
 least p (suc c) a = cond (p a) (at a) (least p c (suc a))
 
--- the greatest j of the c numbers from a on with p j
+-- The greatest of the c numbers from a on that satisfies p, or nothing.
 unfoldable pub greatest : (ℕ → Bool) → ℕ → ℕ → Answer
 greatest p zero a = nothing
 greatest p (suc c) a = cond (p (a + c)) (at (a + c)) (greatest p c a)
 
--- the excess after position j is v
+-- Tests whether the excess after position j is v. It counts the bit at j.
 abbrev pub excessAfter : (ℕ → ℤ) → ℤ → ℕ → Bool
 excessAfter e v j = eqZ (e (suc j)) v
 
--- the excess before position j is v
+-- Tests whether the excess before position j is v. It does not count the bit at j.
 abbrev pub excessBefore : (ℕ → ℤ) → ℤ → ℕ → Bool
 excessBefore e v j = eqZ (e j) v
 
--- fwd_search(i, r): least j with i < j < n and E(j+1) = E(i+1) + r
+-- fwd_search(i, r) is the smallest position j with i < j < n and E(j+1) = E(i+1) + r. It is nothing if i >= n, since no j is left then.
 unfoldable pub fwd : List ℕ → ℕ → ℕ → ℤ → Answer
 fwd ws n i r = least (excessAfter (E ws) (E ws (suc i) +ℤ r)) (n - suc i) (suc i)
 
--- bwd_search(i, r): greatest j < i with E(j) = E(i) + r; nothing when i >= n
+-- bwd_search(i, r) is the greatest position j < i with E(j) = E(i) + r. It is nothing if i >= n.
 unfoldable pub bwd : List ℕ → ℕ → ℕ → ℤ → Answer
 bwd ws n i r = cond (ltb i n) (greatest (excessBefore (E ws) (E ws i +ℤ r)) i 0) nothing

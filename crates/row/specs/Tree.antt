@@ -1,4 +1,4 @@
--- Open and closing positions, handles, and one tree.
+-- Open and close bits of a row (SCOPE, The row and its excess), handles and rows that are one tree (SCOPE, The calls).
 -- Assumes nothing.
 use mathlib.Core.Path.{_≡_}
 use mathlib.Core.Bool.{Bool, true, _&&_}
@@ -11,29 +11,29 @@ use Rattle.ints.specs.Order.{eqZ}
 use Rattle.row.specs.Bits.{bitAt}
 use Rattle.row.specs.Excess.{E}
 
--- position i is in the row and opens: a handle
+-- Tests whether position i is an open bit of the row: it is below n and its bit is 1.
 unfoldable pub opens : List ℕ → ℕ → ℕ → Bool
 opens ws n i = ltb i n && eqb (bitAt ws i) 1
 
--- a handle is an open position below n
+-- A handle is a position below n whose bit is open.
 abbrev pub Handle : List ℕ → ℕ → ℕ → Type 0
 Handle ws n v = opens ws n v ≡ true
 
--- position i is in the row and closes
+-- Tests whether position i is a close bit of the row: it is below n and its bit is 0.
 unfoldable pub closes : List ℕ → ℕ → ℕ → Bool
 closes ws n i = ltb i n && eqb (bitAt ws i) 0
 
--- one tree: n >= 2, E(n) = 0, and E(k) > 0 for 0 < k < n
+-- A row is one tree if n >= 2, E(n) = 0, and E(k) > 0 for every k with 0 < k < n.
 pub record OneTree (ws : List ℕ) (n : ℕ) : Type 0 where
   pub two : 2 ≤ n
   pub closed : E ws n ≡ pos 0
   pub above : (k : ℕ) → 0 < k → k < n → pos 0 <ℤ E ws k
 
--- p holds of 0 to c - 1
+-- Tests whether p holds of every number below c.
 unfoldable pub allBelow : (ℕ → Bool) → ℕ → Bool
 allBelow p zero = true
 allBelow p (suc c) = p c && allBelow p c
 
--- the same as a test
+-- The same three conditions as a test. It reads E(k + 1) for every k below n - 1, so E(1) to E(n - 1).
 unfoldable pub oneTree : List ℕ → ℕ → Bool
 oneTree ws n = leb 2 n && eqZ (E ws n) (pos 0) && allBelow (λ k. ltZ (pos 0) (E ws (suc k))) (n - 1)

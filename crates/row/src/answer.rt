@@ -1,14 +1,14 @@
-// What the calls answer. specs/Answer.antt gives the paper's number and values for every case.
+// The answer types of the calls. specs/Answer.antt gives the specification answer of each case (SCOPE, Refusals).
 use crate::refusal::Refusal;
 
-// A search or a step through the tree.
+// Answer of a search, and of every other call that returns a position.
 pub enum Found {
     At(usize),
     Nothing,
     Refused(Refusal),
 }
 
-// A question.
+// Answer of a yes-or-no call.
 pub enum Told {
     Yes,
     No,
@@ -16,13 +16,13 @@ pub enum Told {
     Refused(Refusal),
 }
 
-// A build of the nodes.
+// Answer of a build of the min-max nodes.
 pub enum Built {
     Done,
     Refused(Refusal),
 }
 
-// A text that was read: its bits.
+// Answer of the text reader: the bit count of the text.
 pub enum Read {
     Bits(usize),
     Refused(Refusal),

@@ -1,30 +1,32 @@
-// The tests of a row and of a handle, in document 01's order: 2, 3, then 5.
+// The gates of a row and of a handle. Their tests come in the order 2, 3, 5 (SCOPE, Refusals).
 ghost use mathlib.Core.Path.{_≡_};
 ghost use Prim.Native.Nat.{_≤_, _*_};
 ghost use lib.ListN.{length};
+ghost use Rattle.row.specs.Limits.{maxBits};
 ghost use Rattle.row.specs.Gates.{wordsFor, rowGate, handleGate};
 use crate::bits::opens_at;
+use crate::limit::MAX_BITS;
 use crate::refusal::Refusal;
 
-// What the tests before a call say.
+// Result of the tests before a call: all pass, or one of them refuses.
 pub enum Gate {
     Pass,
     Refuse(Refusal),
 }
 
-// The words that n bits need.
+// Returns the number of words that n bits need. The bound on n keeps the sum from overflowing.
 pub fn words_for(n: usize) -> usize
-    requires { ⌜ n ≤ 4294967296 ⌝ }
+    requires { ⌜ n ≤ maxBits ⌝ }
     ensures { λ r. ⌜ r ≡ wordsFor n ⌝ }
 {
     (n + 63) / 64
 }
 
-// Refusals 2 and 3, for n bits in so many words.
+// Tests a row of n bits in `words` words: refusal 2, then refusal 3.
 pub fn admit_row(words: usize, n: usize) -> Gate
     ensures { λ g. ⌜ g ≡ rowGate words n ⌝ }
 {
-    if 4294967296 < n {
+    if MAX_BITS < n {
         return Gate::Refuse(Refusal::TooManyBits);
     }
     if words < words_for(n) {
@@ -33,7 +35,7 @@ pub fn admit_row(words: usize, n: usize) -> Gate
     Gate::Pass
 }
 
-// Refusal 5, after 2 and 3.
+// Tests whether v is a handle: refusal 5. The row has passed refusals 2 and 3 before.
 pub fn admit_handle(words: &[u64], n: usize, v: usize) -> Gate
     requires { ⌜ n ≤ 64 * length (now words) ⌝ }
     ensures { λ g. ⌜ g ≡ handleGate (now (words .entry)) n v ⌝ }

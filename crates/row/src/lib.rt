@@ -1,11 +1,14 @@
-// A row of parentheses: a lent slice of words and a bit count. Here are its bits, the refusals with their numbers, what the
-// calls above answer, and the tests that every call makes of the row and of a handle. The definitions that all promises
-// rest on stand in specs/: a bit, the excess E, the two searches, one tree.
+// A row of parentheses: a borrowed slice of 64-bit words and a bit count n.
 //
-// A function that has a `requires` tests nothing again: its callers have passed `admit_row`.
+// This crate has the bit reads, the answer types, the refusals with their numbers, and the gates of a row and of a handle.
+// A gate is the tests that a call makes before it answers. The definitions that all promises cite are in specs/:
+// bit, excess, the two searches, one tree.
+//
+// A function with a `requires` repeats no test. Its callers have passed `admit_row`.
 mod answer;
 mod bits;
 mod gate;
+mod limit;
 mod position;
 mod refusal;
 
@@ -20,6 +23,8 @@ pub use gate::Gate;
 pub use gate::admit_handle;
 pub use gate::admit_row;
 pub use gate::words_for;
+pub use limit::MAX_BITS;
+pub use limit::MAX_SHORT_BITS;
 pub use position::earlier;
 pub use position::later;
 pub use refusal::Refusal;

@@ -1,4 +1,4 @@
-// The earlier and the later of two positions.
+// The earlier and the later of two positions, that is the smaller and the greater one.
 ghost use mathlib.Core.Path.{_≡_};
 ghost use Prim.Native.Nat.{min, max};
 

@@ -1,4 +1,4 @@
-// Why a call refuses. Document 01 numbers them 1 to 8, in this order.
+// The reasons for which a call refuses, in the order of their numbers 1 to 8 (SCOPE, Refusals).
 ghost use mathlib.Core.Path.{_≡_};
 ghost use Rattle.row.specs.Answer.{numberOf};
 
@@ -13,7 +13,7 @@ pub enum Refusal {
     NodesMisfit,
 }
 
-// The number under which document 01 lists a refusal.
+// Returns the number of a refusal (SCOPE, Refusals).
 pub fn number(k: Refusal) -> u64
     ensures { λ r. ⌜ r ≡ numberOf k ⌝ }
 {

@@ -1,5 +1,9 @@
--- What the reader leaves in the words, said of bits and words alone. No function's proof needs these: they say what its promise means.
---   refusal-keeps, length-stays, past-stays: of any text; bits-are, unused-zero: of a text that is read
+-- What the promise of the reader means for single bits and words. No proof of a function uses these laws.
+--   refusal-keeps: a refused text leaves every word unchanged
+--   length-stays: the number of words is unchanged
+--   past-stays: words after those that the bits need are unchanged
+--   bits-are: after a successful reading, bit i of the words is bit i of the text
+--   unused-zero: after a successful reading, bits past the text are 0, up to the end of the last needed word
 -- Assumes nothing.
 use mathlib.Core.Path.{_≡_, refl, sym, ap, _∙_}
 use mathlib.Core.List.{List, _++_}
@@ -16,12 +20,12 @@ use Rattle.text.specs.Text.{textBit, wordOf, wordsOf, textGate, textWord
 use Rattle.text.proofs.Packed.{packed-digit}
 use Rattle.text.proofs.Text.{bit-lt, bit-past, words-length, words-at, text-fits, words-passed, words-refused}
 
--- digit j of word k is bit 64 k + j
+-- Digit j of word k is bit 64k + j of the text.
 word-digit : (s : List ℕ) (k j : ℕ) → j < 64 → digit (wordOf s k) j ≡ textBit s (64 * k + j)
 unfolding wordOf
 word-digit s k j h = packed-digit (textBit s) (bit-lt s) (64 * k) 64 j h
 
--- past the m words that are written, a word is as it came
+-- Words after the m written ones are unchanged.
 word-past : (s ws : List ℕ) (m k : ℕ) → m ≤ k → getD (wordsOf s m ++ drop m ws) k 0 ≡ getD ws k 0
 word-past s ws m k h =
     let e : length (wordsOf s m) + (k - m) ≡ k = omega (arith, words-length s m) in
@@ -29,11 +33,11 @@ word-past s ws m k h =
     cc (getD-append-add (wordsOf s m) (drop m ws) (k - m) 0, getD-drop m ws (k - m) 0)
 
 module _ (s ws : List ℕ) where
-  -- a refusal leaves every word
+  -- A refused text leaves every word unchanged.
   pub refusal-keeps : (k : Refusal) → textGate s (length ws) ≡ Refuse k → textWords s ws ≡ ws
   refusal-keeps k g = sym (words-refused s ws k g)
 
-  -- there are as many words as before
+  -- The number of words is unchanged.
   pub length-stays : length (textWords s ws) ≡ length ws
   length-stays = by (textGate s (length ws)) refl
     where
@@ -43,7 +47,7 @@ module _ (s ws : List ℕ) where
           rw (← words-passed s ws g, length-append, words-length, length-drop) (omega arith)
       by (Refuse k) g = ap length (refusal-keeps k g)
 
-  -- words past those that the text's bits need stay
+  -- Words after those that the bits of the text need are unchanged.
   pub past-stays : (k : ℕ) → wordsFor (length s) ≤ k → getD (textWords s ws) k 0 ≡ getD ws k 0
   past-stays k h = by (textGate s (length ws)) refl
     where
@@ -52,7 +56,7 @@ module _ (s ws : List ℕ) where
       by (Refuse r) g = ap (λ l. getD l k 0) (refusal-keeps r g)
 
   module _ (g : textGate s (length ws) ≡ Pass) where
-    -- every bit of the written words is the text's
+    -- Every bit of the written words is the bit of the text with the same index.
     written : (i : ℕ) → i < 64 * wordsFor (length s) → bitAt (textWords s ws) i ≡ textBit s i
     written i h =
         let e : 64 * (i / 64) + i % 64 ≡ i = omega arith in
@@ -60,10 +64,10 @@ module _ (s ws : List ℕ) where
         let m : i / 64 < length (wordsOf s (wordsFor (length s))) = rw words-length l in
         rw (← words-passed s ws g, List·getD-append, words-at) (word-digit s (i / 64) (i % 64) (omega arith) ∙ ap (textBit s) e)
 
-    -- the bits are the parentheses
+    -- For each byte of the text, the bit with its index is the bit of that parenthesis.
     pub bits-are : (i : ℕ) → i < length s → bitAt (textWords s ws) i ≡ textBit s i
     bits-are i h = written i (omega arith)
 
-    -- the bits past them, to the end of the last word that they need, are 0
+    -- The bits past the text are 0, up to the end of the last word that it needs.
     pub unused-zero : (i : ℕ) → length s ≤ i → i < 64 * wordsFor (length s) → bitAt (textWords s ws) i ≡ 0
     unused-zero i l h = written i h ∙ sym (bit-past s i l)

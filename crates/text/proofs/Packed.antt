@@ -1,5 +1,7 @@
--- A number packed from bits, first bit least significant.
---   packed-front: one bit more in front; packed-lt: m bits at most give a number below 2 ^ m; packed-digit: digit j is bit a + j
+-- Laws of `packed`: a number made of given bits, the first one least significant.
+--   packed-front: one bit more in front gives that bit plus twice the number
+--   packed-lt: a number made of at most m bits is below 2^m
+--   packed-digit: digit j of the number is bit a + j
 -- Assumes nothing.
 use mathlib.Core.Path.{_≡_}
 use Prim.Native.Nat.{ℕ, zero, suc, _+_, _-_, _*_, _/_, _^_, _≤_, _<_}

@@ -1,9 +1,18 @@
--- The reader's tests, bits and words: what each is in each case, one step, and what an open gate tells.
---   all-stop, all-step, all-done: the test of every byte, from byte i on
---   bit-open, bit-close, bit-past: a bit by its byte; bit-lt: a bit is below 2
---   words-length, words-at, words-step: the words written so far, and one more
---   text-many, text-other, text-row: refusals 2 and 6, and neither; text-fits: what an open gate tells of the text
---   words-passed, words-refused: the words after the call
+-- Laws of the tests, the bits and the words of the text reader.
+--   all-stop: if byte i is no parenthesis, the test of the bytes from i on says false
+--   all-step: if byte i is a parenthesis, the test from i on says what the test from i + 1 on says
+--   all-done: past the end of the text the test says true
+--   bit-open: a byte `(` gives the bit 1
+--   bit-close, bit-past: any other byte gives the bit 0, and so does an index past the end
+--   bit-lt: a bit is below 2
+--   words-length: `wordsOf s m` has m words
+--   words-at: word k of `wordsOf s m` is `wordOf s k`
+--   words-step: writing word k turns k written words into k + 1
+--   text-many: a text with too many bytes gives refusal 2
+--   text-other: a byte that is no parenthesis gives refusal 6
+--   text-row: otherwise the gate of the text is the gate of the row
+--   text-fits: if the gate passes, the text has at most 2^32 bytes and the words are enough
+--   words-passed, words-refused: the words after the call, if the gate passes and if it refuses
 -- Assumes nothing.
 use mathlib.Core.Path.{_≡_, refl, _∙_}
 use mathlib.Core.Bool.{Bool, true, false, cond}
@@ -17,6 +26,7 @@ use borrow.Author.Tests.{le-leb, lt-leb, leb-false, eq-eqb, ne-eqb, leb-true}
 use lib.Dec.{leb, eqb}
 use lib.ListN.{length, getD, drop, set, length-append, drop-of-length-le, List·getD-eq-default, List·getD-append}
 use lib.Seq.{drop-cons, set-at, getD-at}
+use Rattle.row.specs.Limits.{maxBits}
 use Rattle.row.specs.declared.refusal.Refusal.{Refusal}
 use Rattle.row.specs.declared.refusal.Refusal.the-variants.{TooManyBits, NotAParenthesis}
 use Rattle.row.specs.declared.gate.Gate.the-variants.{Pass, Refuse}
@@ -72,25 +82,25 @@ module _ (s : List ℕ) where
   words-step ws k h = let l = words-length k in rw (add-one, drop-cons ws k 0, append-assoc, set-at)
 
 module _ (s : List ℕ) (w : ℕ) where
-  pub text-many : 4294967296 < length s → Refuse TooManyBits ≡ textGate s w
+  pub text-many : maxBits < length s → Refuse TooManyBits ≡ textGate s w
   unfolding textGate
-  text-many h = simp (lt-leb (length s) 4294967296 h)
+  text-many h = simp (lt-leb (length s) maxBits h)
 
-  pub text-other : length s ≤ 4294967296 → allParentheses s ≡ false → Refuse NotAParenthesis ≡ textGate s w
+  pub text-other : length s ≤ maxBits → allParentheses s ≡ false → Refuse NotAParenthesis ≡ textGate s w
   unfolding textGate
-  text-other h a = simp (le-leb (length s) 4294967296 h, a)
+  text-other h a = simp (le-leb (length s) maxBits h, a)
 
-  pub text-row : length s ≤ 4294967296 → allParentheses s ≡ true → rowGate w (length s) ≡ textGate s w
+  pub text-row : length s ≤ maxBits → allParentheses s ≡ true → rowGate w (length s) ≡ textGate s w
   unfolding textGate
-  text-row h a = simp (le-leb (length s) 4294967296 h, a)
+  text-row h a = simp (le-leb (length s) maxBits h, a)
 
-  pub text-fits : textGate s w ≡ Pass → (length s ≤ 4294967296) × (wordsFor (length s) ≤ w)
-  text-fits g = by (leb (length s) 4294967296) refl (allParentheses s) refl
+  pub text-fits : textGate s w ≡ Pass → (length s ≤ maxBits) × (wordsFor (length s) ≤ w)
+  text-fits g = by (leb (length s) maxBits) refl (allParentheses s) refl
     where
-      by : (a : Bool) → leb (length s) 4294967296 ≡ a → (b : Bool) → allParentheses s ≡ b → (length s ≤ 4294967296) × (wordsFor (length s) ≤ w)
-      by true p true q = let r = row-fits w (length s) (text-row (leb-true (length s) 4294967296 p) q ∙ g) in omega arith
-      by true p false q = let z : _≡_ {A = ℕ} 0 1 = cc (text-other (leb-true (length s) 4294967296 p) q) in absurd (omega arith)
-      by false p b q = let z : _≡_ {A = ℕ} 0 1 = cc (text-many (leb-false (length s) 4294967296 p)) in absurd (omega arith)
+      by : (a : Bool) → leb (length s) maxBits ≡ a → (b : Bool) → allParentheses s ≡ b → (length s ≤ maxBits) × (wordsFor (length s) ≤ w)
+      by true p true q = let r = row-fits w (length s) (text-row (leb-true (length s) maxBits p) q ∙ g) in omega arith
+      by true p false q = let z : _≡_ {A = ℕ} 0 1 = cc (text-other (leb-true (length s) maxBits p) q) in absurd (omega arith)
+      by false p b q = let z : _≡_ {A = ℕ} 0 1 = cc (text-many (leb-false (length s) maxBits p)) in absurd (omega arith)
 
 module _ (s ws : List ℕ) where
   pub words-passed : textGate s (length ws) ≡ Pass → wordsOf s (wordsFor (length s)) ++ drop (wordsFor (length s)) ws ≡ textWords s ws

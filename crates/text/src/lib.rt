@@ -1,7 +1,8 @@
-// The reader of parenthesis text: each byte `(` is an open bit, each `)` a closing one.
+// The reader of parenthesis text: each byte `(` becomes an open bit, each byte `)` a close bit (SCOPE, The text reader).
 //
-// It tests the whole text before it writes a word: refusal 2 for too many bytes, 6 for a byte that is no parenthesis, then
-// 3 for too few words. A text that is read fills the words that its bits need, unused bits 0; words past them stay.
+// The reader tests the whole text before it writes the first word. The tests are refusal 2 for too many bytes, 6 for a byte that
+// is no parenthesis, then 3 for too few words. On refusal all words are unchanged. On success the words that the bits need are
+// written, their unused bits are 0, and the words after them are unchanged.
 ghost use mathlib.Core.Path.{_≡_};
 ghost use mathlib.Core.List.{_++_};
 ghost use Prim.Native.Nat.{_*_, _≤_, _<_};
@@ -32,7 +33,7 @@ fn all_parentheses(text: &[u8]) -> bool
     true
 }
 
-// 1 where byte i opens; 0 where it closes, and past the text's end.
+// Returns bit i of the text: 1 if byte i is `(`, otherwise 0. It is also 0 past the end of the text.
 fn text_bit(text: &[u8], i: usize) -> u64
     ensures { λ r. ⌜ r ≡ textBit (now (text .entry)) i ⌝ }
 {
@@ -44,7 +45,7 @@ fn text_bit(text: &[u8], i: usize) -> u64
     0
 }
 
-// The 64 bits from 64 k on, from the last to the first: each doubles what stands above it.
+// Returns word k of the text: bits 64k to 64k + 63. It goes from the last bit to the first, so each step doubles and adds one bit.
 fn word_of(text: &[u8], k: usize) -> u64
     requires { ⌜ k ≤ 67108864 ⌝ }
     ensures { λ r. ⌜ r ≡ wordOf (now (text .entry)) k ⌝ }
@@ -58,6 +59,7 @@ fn word_of(text: &[u8], k: usize) -> u64
     w
 }
 
+// Writes the first `need` words of the text. The words after them are unchanged.
 fn write_words(text: &[u8], words: &mut [u64], need: usize)
     requires { ⌜ (need ≤ 67108864) × (need ≤ length (now words)) ⌝ }
     ensures { λ r. ⌜ now (words .exit) ≡ wordsOf (now (text .entry)) need ++ drop need (now (words .entry)) ⌝ }
@@ -69,12 +71,12 @@ fn write_words(text: &[u8], words: &mut [u64], need: usize)
     }
 }
 
-// Refusals 2, 6 and 3, for a text that is to fill so many words.
+// Tests a text that is to go into `words` words: refusal 2, then 6, then 3.
 fn admit_text(text: &[u8], words: usize) -> Gate
     ensures { λ g. ⌜ g ≡ textGate (now (text .entry)) words ⌝ }
 {
     let n = text.len();
-    if 4294967296 < n {
+    if row::MAX_BITS < n {
         return Gate::Refuse(Refusal::TooManyBits);
     }
     if !all_parentheses(text) {
@@ -83,7 +85,7 @@ fn admit_text(text: &[u8], words: usize) -> Gate
     row::admit_row(words, n)
 }
 
-// The bits of a text, put into words: how many there are, or the refusal.
+// Reads a text into words. Returns the bit count, or refusal 2, 6 or 3.
 pub fn read_text(text: &[u8], words: &mut [u64]) -> Read
     ensures { λ a. ⌜ paperRead a ≡ through (textGate (now (text .entry)) (length (now (words .entry)))) (at (length (now (text .entry)))) ⌝ }
     ensures { λ a. ⌜ now (words .exit) ≡ textWords (now (text .entry)) (now (words .entry)) ⌝ }

@@ -3,6 +3,7 @@ ghost use mathlib.Core.Path.{_≡_};
 ghost use mathlib.Core.Bool.{false};
 ghost use Prim.Native.Nat.{_+_, _*_, _<_, _≤_};
 ghost use lib.ListN.{length};
+ghost use Rattle.row.specs.Limits.{maxBits};
 ghost use Rattle.row.specs.Way.{forward};
 ghost use Rattle.mmt_layout.specs.Layout.{width};
 ghost use Rattle.walk_spec.specs.Walk.{lastSibling, climb};
@@ -17,7 +18,7 @@ use walk_examine::ask_fwd;
 // Up from node k past right children, which have nothing beyond them: to a left child or to the root. A loop, since no node
 // is asked on the way and each call would cost a frame.
 fn left_above(k: usize, h: usize) -> Place
-    requires { ⌜ h + 2 * k ≤ 4294967296 ⌝ }
+    requires { ⌜ h + 2 * k ≤ maxBits ⌝ }
     ensures { λ p. ⌜ Rises forward k h (p .node) (p .height) ⌝ }
     ensures { λ p. ⌜ ((p .node ≡ 0 → ⊥) → lastSibling forward (p .node) ≡ false) ⌝ }
 {

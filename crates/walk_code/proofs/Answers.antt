@@ -18,6 +18,7 @@ use mir.Syntax.{w64}
 use mir.Val.{SFits, toZ, ofZ}
 use mir.Facts.{toZ-pos}
 use mir.ValLaws.{toZ-ofZ}
+use Rattle.row.specs.Limits.{maxBits}
 use Rattle.ints.specs.Sides.{up, dn, size}
 use Rattle.ints.proofs.Linear.{minus}
 use Rattle.ints.proofs.Shapes.{zsum}
@@ -28,7 +29,7 @@ use Rattle.bits_stretch.specs.declared.bits.Scanned.{Scanned}
 use Rattle.bits_stretch.specs.declared.bits.Scanned.the-variants.{Hit, Left}
 use Rattle.bits_stretch.specs.Scan.{scan}
 use Rattle.mmt_layout.specs.declared.Layout.{Layout}
-use Rattle.mmt_layout.specs.Layout.{leaves, layoutOf, inner, count}
+use Rattle.mmt_layout.specs.Layout.{leaves, layoutOf, inner, count, maxBlock, maxNodes}
 use Rattle.mmt_layout.proofs.Powers.{inner-top, leaves-out}
 use Rattle.mmt_layout.proofs.Admitted.{count-small}
 use Rattle.mmt_layout.proofs.Places.{inner-is, count-is, place-leaf}
@@ -71,10 +72,10 @@ lost-is lost e = refl
 pub record Laid (n B b : ℕ) (x : Layout) : Type 0 where
   pub first : x .inner ≡ inner n B
   pub all : x .inner + x .leaves ≡ count n B
-  pub few : count n B ≤ 1073741823
+  pub few : count n B ≤ maxNodes
   pub there : inner n B + b < count n B
 
-module _ (n B b : ℕ) (eight : 8 ≤ B) (short : n ≤ 4294967296) (l : b * B < n) where
+module _ (n B b : ℕ) (eight : 8 ≤ B) (short : n ≤ maxBits) (l : b * B < n) where
   which : b < leaves n B
   which = elim (decLt b (leaves n B)) [ yes y ↦ y | no z ↦ absurd (omega (arith, leaves-out n B (omega arith) b (omega arith))) ]
 
@@ -130,8 +131,8 @@ module _ (w : Way) (ws : List ℕ) (n : ℕ) (s : List ℤ) (B : ℕ) where
           rw (turn-is climbing k h p e .1, y .1) (leaf-count (inside j q) (y .0))
 
     -- the nodes on the way, from a block of the row
-    module _ (eight : 8 ≤ B) (short : n ≤ 4294967296) (l : b * B < n) where
-      module _ (o : size r ≤ 4295032832) where
+    module _ (eight : 8 ≤ B) (short : n ≤ maxBits) (l : b * B < n) where
+      module _ (o : size r ≤ (maxBits + maxBlock)) where
         pub start-room : Room (0 + 2 * (inner n B + b)) r
         start-room = omega (arith, start-there n B b eight short l, count-small n B eight short)
 
@@ -169,7 +170,7 @@ size-in n (pos c) h k = omega arith
 size-in n (negsuc c) h k = omega arith
 
 -- |r| > n is tested in two, over n and -n as signed numbers
-module _ (n : ℕ) (short : n ≤ 4294967296) where
+module _ (n : ℕ) (short : n ≤ maxBits) where
   signed : toZ w64 n ≡ pos n
   signed = toZ-pos w64 (omega arith)
 

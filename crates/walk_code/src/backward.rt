@@ -2,13 +2,14 @@
 ghost use mathlib.Core.Path.{_≡_};
 ghost use Prim.Native.Nat.{_+_, _-_, _*_, _<_, _≤_};
 ghost use lib.ListN.{length};
+ghost use Rattle.row.specs.Limits.{maxBits};
 ghost use Rattle.ints.specs.Sides.{size};
 ghost use Rattle.row.specs.Answer.{paperFound};
 ghost use Rattle.row.specs.Bits.{bitAt};
 ghost use Rattle.row.specs.Way.{backward};
 ghost use Rattle.bits_stretch.specs.Scan.{scan};
 ghost use Rattle.bits_lookup.specs.Table.{IsTable};
-ghost use Rattle.mmt_layout.specs.Layout.{inner, count, Fine};
+ghost use Rattle.mmt_layout.specs.Layout.{inner, count, Fine, maxBlock};
 ghost use Rattle.walk_spec.specs.Walk.{leaf, land, beyond, inStart, walk};
 ghost use Rattle.walk_examine.specs.Asked.{Room};
 use bits_lookup::Lookup;
@@ -56,7 +57,7 @@ fn beyond_bwd(
 ) -> Found
     requires { ⌜ IsTable (now t) ⌝ }
     requires { ⌜ Fine (length (now words)) n (length (now nodes)) block ⌝ }
-    requires { ⌜ (b * block < n) × (size r ≤ 4295032832) ⌝ }
+    requires { ⌜ (b * block < n) × (size r ≤ (maxBits + maxBlock)) ⌝ }
     ensures { λ a. ⌜ paperFound a ≡ beyond backward (now (words .entry)) n (now (nodes .entry)) block b r .answer ⌝ }
 {
     let lay = mmt_layout::layout_of(n, block);
@@ -84,7 +85,7 @@ fn past_edge_bwd(
     r: i64,
 ) -> Found
     requires { ⌜ Fine (length (now words)) n (length (now nodes)) block ⌝ }
-    requires { ⌜ (b * block < n) × (b * block ≤ edge) × (edge ≤ n) × (size r + (edge - b * block) ≤ 4295032832) ⌝ }
+    requires { ⌜ (b * block < n) × (b * block ≤ edge) × (edge ≤ n) × (size r + (edge - b * block) ≤ (maxBits + maxBlock)) ⌝ }
     ensures { λ a. ⌜ paperFound a
         ≡ inStart backward (now (words .entry)) n (now (nodes .entry)) block b
         (scan backward (bitAt (now (words .entry))) (edge - b * block) (b * block) r) .answer ⌝ }

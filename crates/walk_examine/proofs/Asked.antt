@@ -12,11 +12,12 @@ use Prim.Native.Nat.{ℕ, _+_, _≤_, _<_}
 use native.Mathlib.Omega.{arith}
 use borrow.Author.Tests.{leb-true, leb-false, le-leb, lt-leb, not-true, not-false}
 use lib.Dec.{leb}
-use lib.IntN.{ℤ, pos, negsuc}
+use lib.IntN.{ℤ, pos, negsuc, negℤ}
 use lib.Signed.{leZ}
 use mir.Syntax.{w64}
 use mir.Val.{SFits, toZ, ofZ}
 use mir.ValLaws.{toZ-ofZ}
+use Rattle.row.specs.Limits.{maxBits}
 use Rattle.ints.specs.Sides.{size}
 use Rattle.ints.proofs.Linear.{plus-size, minus-size}
 use Rattle.ints.proofs.Shapes.{zsum}
@@ -33,16 +34,16 @@ use Rattle.walk_examine.specs.declared.ask.Asked.the-variants.{Here, Pas
 use Rattle.walk_examine.specs.Asked.{examinedOf, askedOf, Room}
 
 -- ---- how large
-pub near-size : (z : ℤ) → inRange z ≡ true → size z ≤ 4294967296
+pub near-size : (z : ℤ) → inRange z ≡ true → size z ≤ maxBits
 unfolding inRange
-near-size (pos n) e = let h = and-right (leZ (negsuc 4294967295) (pos n)) (leZ (pos n) (pos 4294967296)) e in omega zsum
-near-size (negsuc n) e = let h = and-left (leZ (negsuc 4294967295) (negsuc n)) (leZ (negsuc n) (pos 4294967296)) e in omega zsum
+near-size (pos n) e = let h = and-right (leZ (negℤ (pos maxBits)) (pos n)) (leZ (pos n) (pos maxBits)) e in omega zsum
+near-size (negsuc n) e = let h = and-left (leZ (negℤ (pos maxBits)) (negsuc n)) (leZ (negsuc n) (pos maxBits)) e in omega zsum
 
-pub fits-size : (x : Summary) → fits x ≡ true → size (x .total) ≤ 4294967296
+pub fits-size : (x : Summary) → fits x ≡ true → size (x .total) ≤ maxBits
 unfolding fits
 fits-size x e = near-size (x .total) (and-left (inRange (x .total)) (inRange (x .least)) (and-left (inRange (x .total) && inRange (x .least)) (inRange (x .greatest)) e))
 
-pub passed-size : (w : Way) (r : ℤ) (x : Summary) → fits x ≡ true → size (passed w r (x .total)) ≤ size r + 4294967296
+pub passed-size : (w : Way) (r : ℤ) (x : Summary) → fits x ≡ true → size (passed w r (x .total)) ≤ size r + maxBits
 passed-size forward r x e = omega (arith, minus-size r (x .total), fits-size x e)
 passed-size backward r x e = omega (arith, plus-size r (x .total), fits-size x e)
 
@@ -131,5 +132,5 @@ module _ (w : Way) (m : ℕ) (s : List ℤ) (k : ℕ) (r : ℤ) where
   unfolding askedOf
   says {a} {b} p q = rw (sym q ∙ p) (said (leb m k) (fits (nodeAt s k)) (holdsOn w (nodeAt s k) r) refl refl refl)
 
-  pub past-size : (q : ℤ) → Says (Past q) → size q ≤ size r + 4294967296
+  pub past-size : (q : ℤ) → Says (Past q) → size q ≤ size r + maxBits
   past-size q a = rw (a .3) at (passed-size w r (nodeAt s k) (a .1))

@@ -5,6 +5,8 @@ use mathlib.Core.List.{List}
 use Prim.Native.Nat.{ℕ, _+_, _*_, _<_}
 use lib.Dec.{leb}
 use lib.IntN.{ℤ}
+use Rattle.ints.specs.Limits.{i64Bound}
+use Rattle.row.specs.Limits.{maxBits}
 use Rattle.ints.specs.Sides.{size}
 use Rattle.row.specs.Way.{Way}
 use Rattle.bits_stretch.specs.declared.summary.Summary.{Summary}
@@ -25,4 +27,4 @@ askedOf w m s k r = cond (leb m k) Absent (examine w (nodeAt s k) r MisfitAsked 
 
 -- room in an i64 for c totals more, each of at most 2^32, and for the bits of a block
 abbrev pub Room : ℕ → ℤ → Type 0
-Room c r = size r + 4294967296 * (c + 2) < 9223372036854775808
+Room c r = size r + maxBits * (c + 2) < i64Bound

@@ -23,10 +23,15 @@ pub enum Asked {
     Misfit,
 }
 
+// The range of a node number: no row has more than 2^32 bits, so no excess of one lies further from 0.
+const LOWEST: i64 = -4294967296;
+
+const HIGHEST: i64 = 4294967296;
+
 fn near_zero(x: i64) -> bool
     ensures { λ b. ⌜ b ≡ inRange x ⌝ }
 {
-    -4294967296 <= x && x <= 4294967296
+    LOWEST <= x && x <= HIGHEST
 }
 
 // The one place where a lent node is looked at: its numbers, whether used or not, are tested for range.

@@ -1,7 +1,8 @@
--- Over nodes as built, a climb and a descent find what a scan of the bits finds, either way.
---   node-fits, node-told: what a node tells
---   down: from a node whose bits have the position, a descent lands at it
---   up: a climb from a node finds what a scan of the bits beyond it finds
+-- Over nodes as built, climb and descent find what a scan of the bits finds, in both directions.
+--   node-fits: the entries of a node are in range
+--   node-told: a node qualifies for a remainder exactly if a scan of its bits hits a position
+--   down: a descent from a node whose bits contain the position answers it; by induction on the height
+--   up: a climb from a node answers what a scan of the bits beyond the node hits; the measure is the index of the node
 -- Assumes nothing.
 use mathlib.Core.Path.{_≡_, refl, sym, _∙_}
 use mathlib.Core.Bool.{Bool, true, false}
@@ -11,6 +12,7 @@ use native.Mathlib.Omega.{arith}
 use native.Mathlib.Numerals.{add-one}
 use native.Mathlib.Decide.{decLt, decLe}
 use lib.IntN.{ℤ, pos}
+use Rattle.row.specs.Limits.{maxBits}
 use Rattle.row.specs.Answer.{at}
 use Rattle.row.specs.Bits.{bitAt}
 use Rattle.row.specs.Way.{Way, forward, backward}
@@ -29,17 +31,17 @@ use Rattle.walk_spec.proofs.Steps.{climb-root, climb-up, climb-alone, c
 use Rattle.walk_spec.proofs.Told.{Told, here, past, told-hit, summary-fit, numbers-told}
 use Rattle.walk_spec.proofs.Stretches.{over, over-none, bitsOf, restOf, children, rest-last, rest-beside, rest-root, leaf-bits}
 
--- the bit at which a walk enters node k
+-- the position at which a walk enters the bits of node k: forward their start, backward their end
 abbrev into : Way → ℕ → ℕ → ℕ → ℕ → ℕ
 into forward n B h k = startOf n B h k
 into backward n B h k = startOf n B h (suc k)
 
-module _ (ws : List ℕ) (n : ℕ) (s : List ℤ) (B : ℕ) (pB : 0 < B) (some : 0 < n) (short : n ≤ 4294967296) (built : AsBuilt ws n s B) where
-  -- ---- where the nodes stand
+module _ (ws : List ℕ) (n : ℕ) (s : List ℤ) (B : ℕ) (pB : 0 < B) (some : 0 < n) (short : n ≤ maxBits) (built : AsBuilt ws n s B) where
+  -- ---- which nodes exist, and where their bits begin
   present : (h k : ℕ) → Place (top n B) h k → startOf n B h k < n → k < count n B
   present h k p l = elim (decLt k (count n B)) [ yes y ↦ y | no z ↦ absurd (omega (arith, absent n B pB some h k p (omega arith))) ]
 
-  -- a position is met in no empty stretch
+  -- a node whose bits contain a hit begins before n
   begins : (w : Way) (h k j : ℕ) (r : ℤ) → bitsOf w ws n B h k r ≡ Hit j → startOf n B h k < n
   begins w h k j r e = elim (decLt (startOf n B h k) n) [
     | yes y ↦ y
@@ -60,7 +62,7 @@ module _ (ws : List ℕ) (n : ℕ) (s : List ℤ) (B : ℕ) (pB : 0 < B) (some :
   into-far forward h k j r l e = begins forward h (2 * k + 2) j r e
   into-far backward h k j r l e = let d : suc (2 * k + 1) ≡ 2 * k + 2 = omega arith in rw d l
 
-  -- where the sibling is absent, no bit is left
+  -- if the sibling beyond node k does not exist, there are no bits beyond node k
   alone : (w : Way) (h k : ℕ) (r : ℤ) → Place (top n B) h (siblingBeyond w k) → startOf n B h k < n → (k ≡ 0 → ⊥) → count n B ≤ siblingBeyond w k
       → restOf w ws n B h k r ≡ Left r
   alone forward h k r p l z o = over-none (bitAt ws) forward (startOf n B h (suc k)) n r (omega (arith, rw add-one at (absent n B pB some h (k + 1) p o)))
@@ -77,7 +79,7 @@ module _ (ws : List ℕ) (n : ℕ) (s : List ℤ) (B : ℕ) (pB : 0 < B) (some :
         | no l ↦ (let e : m ≡ k = omega arith in rw e (omega arith))
       ])
 
-  -- ---- what node k tells
+  -- ---- what the entries of node k say about its bits
   module _ (h k : ℕ) (p : Place (top n B) h k) (i : k < count n B) where
     node : nodeAt s k ≡ summaryOf (bitAt ws) (startOf n B h k) (startOf n B h (suc k) - startOf n B h k)
     node = node-is ws n s B pB some 0 (built .node) h k p (omega arith) i
@@ -90,9 +92,9 @@ module _ (ws : List ℕ) (n : ℕ) (s : List ℤ) (B : ℕ) (pB : 0 < B) (some :
     node-told w r = rw node (numbers-told (bitAt ws) (startOf n B h k) w (startOf n B h (suc k) - startOf n B h k) r)
 
   module _ (w : Way) where
-    -- ---- down
+    -- ---- the descent
 
-    -- from each node, h levels above the leaves, whose bits have the position
+    -- a descent from any node at height h answers the position j that the scan of its bits hits
     abbrev Lands : ℕ → Type 0
     Lands h = (k j : ℕ) (r : ℤ) (c : ℕ) → Place (top n B) h k → into w n B h k < n → (r ≡ pos 0 → ⊥) → bitsOf w ws n B h k r ≡ Hit j
         → land w ws n s B (descend w (count n B) s h k r c) .answer ≡ at j
@@ -126,11 +128,11 @@ module _ (ws : List ℕ) (n : ℕ) (s : List ℤ) (B : ℕ) (pB : 0 < B) (some :
     down zero = at-leaf
     down (suc h) = to-child h (down h)
 
-    -- ---- up
+    -- ---- the climb
     abbrev Found : ℕ → ℕ → ℤ → ℕ → Type 0
     Found h k r c = afterClimb w ws n s B (climb w (count n B) s k h k r c) .answer ≡ hitAnswer (restOf w ws n B h k r)
 
-    -- from each node up to f
+    -- a climb from any node with an index of at most f answers what the scan of the bits beyond the node hits
     abbrev Finds : ℕ → Type 0
     Finds f = (h k : ℕ) (r : ℤ) (c : ℕ) → k ≤ f → Place (top n B) h k → startOf n B h k < n → (r ≡ pos 0 → ⊥) → Found h k r c
 

@@ -1,8 +1,11 @@
--- Where the position lies that a walk answers, over any nodes: beyond i, and in the row.
---   hit-in: a scan finds a position among its bits; In, Beyond: the bits of a node, and those beyond it
---   Only, only-more: a position that is answered, if one is, has a property
---   down-in: a descent ends among the bits of its node; up-in: a climb leads beyond its node
---   walk-inside: the whole, either way; walk-after, walk-before: forward and backward
+-- The answer of a walk over any nodes lies beyond i, in the direction of the search, and below n.
+--   hit-in: a scan hits a position among its bits
+--   Only, only-more: the answer has a property if it is a position; a weaker property follows
+--   In, Beyond: the positions among the bits of node k, and beyond them
+--   down-in: a descent from node k answers a position among the bits of node k
+--   up-in: a climb from node k leads to a position beyond node k
+--   walk-inside: the theorem for both directions
+--   walk-after, walk-before: the theorem forward and backward
 -- Assumes nothing.
 use mathlib.Core.Path.{_≡_, refl, ap, _∙_}
 use mathlib.Core.Bool.{false}
@@ -32,13 +35,13 @@ use Rattle.walk_spec.proofs.Ways.{near-place, far-place, side-place, ch
 use Rattle.walk_spec.proofs.Stretches.{over, bitsOf, block-place, block-start, block-end, leaf-bits}
 use Rattle.walk_spec.proofs.Right.{Inside, inside, low, high, start-in}
 
--- a scan finds a position among its bits
+-- a scan hits a position among its bits
 hit-in : (w : Way) (f : ℕ → ℕ) (c a : ℕ) (r : ℤ) (j : ℕ) → scan w f c a r ≡ Hit j → (a ≤ j) × (j < a + c)
 hit-in w f c a r j e =
     let g = rw e at (scan-nearest f (excess f (place w c a) +ℤ r) w c a r refl) in
     (g .0 .0, g .0 .1)
 
--- a position that is answered, if one is, has the property
+-- if the answer is a position, this position has the property P
 abbrev Only : (ℕ → Type 0) → Answer → Type 0
 Only P (at j) = P j
 Only P nothing = Unit {0}
@@ -50,11 +53,11 @@ only-more f nothing p = tt
 only-more f (refused m) p = tt
 
 module _ (n B : ℕ) where
-  -- among the bits of node k, h levels above the leaves
+  -- position j is among the bits of node k at height h
   abbrev In : ℕ → ℕ → ℕ → Type 0
   In h k j = (startOf n B h k ≤ j) × (j < startOf n B h (suc k))
 
-  -- beyond them
+  -- position j is beyond the bits of node k
   abbrev Beyond : Way → ℕ → ℕ → ℕ → Type 0
   Beyond forward h k j = (startOf n B h (suc k) ≤ j) × (j < n)
   Beyond backward h k j = j < startOf n B h k
@@ -94,7 +97,7 @@ module _ (n B : ℕ) where
     far-in forward h k j i = let b = right-bounds h (2 * k + 2) k refl in (omega arith, omega arith)
     far-in backward h k j i = let b = left-bounds h (2 * k + 1) k refl in (omega arith, omega arith)
 
-    -- beyond a parent, and in the sibling beyond, is beyond the node
+    -- a position beyond the parent of node k is beyond node k; so is a position among the bits of the sibling beyond it
     parent-beyond : (w : Way) (h k j : ℕ) → 0 < k → Beyond w (suc h) ((k - 1) / 2) j → Beyond w h k j
     parent-beyond forward h k j z b = let c = child-bounds h k z in (omega arith, b .1)
     parent-beyond backward h k j z b = let c = child-bounds h k z in omega arith
@@ -107,7 +110,7 @@ module _ (w : Way) (ws : List ℕ) (n : ℕ) (s : List ℤ) (B : ℕ) (pB : 0 < 
   abbrev m : ℕ
   m = count n B
 
-  -- what a descent from node k leads to, and a climb
+  -- the answer after a descent from node k, and the answer after a climb from it
   abbrev down : ℕ → ℕ → ℤ → ℕ → Answer
   down h k r c = land w ws n s B (descend w m s h k r c) .answer
 
@@ -168,13 +171,13 @@ module _ (w : Way) (ws : List ℕ) (n : ℕ) (s : List ℤ) (B : ℕ) (pB : 0 < 
       (λ y. on (passed w r (x .total)) (suc c)))
       (λ g. tt))))
 
--- ---- the whole
+-- ---- the whole walk
 module _ (ws : List ℕ) (n : ℕ) (s : List ℤ) (B : ℕ) (pB : 0 < B) (i : ℕ) (r : ℤ) where
-  -- a position of the row that is met after i
+  -- position j is in the row, and the search meets it after i
   abbrev Past : Way → ℕ → Type 0
   Past w j = Before w i j × (j < n)
 
-  -- in the starting block
+  -- a hit in the start block
   start-hit : (w : Way) (j : ℕ) → Inside w n i → startScan w ws n B i r ≡ Hit j → Past w j
   start-hit forward j o e =
       let h = hit-in forward (bitAt ws) (min n (((i + 1) / B + 1) * B) - (i + 1)) (i + 1) r j e in
@@ -184,7 +187,7 @@ module _ (ws : List ℕ) (n : ℕ) (s : List ℤ) (B : ℕ) (pB : 0 < B) (i : �
       let l = low n B pB (i - 1) in
       (omega (arith, h .1), omega (arith, h .1))
 
-  -- past it
+  -- a hit beyond the start block
   start-past : (w : Way) (j : ℕ) → Inside w n i → Beyond n B w 0 (inner n B + startBlock w B i) j → Past w j
   start-past forward j o b =
       let e = block-end ws n B pB (omega arith) ((i + 1) / B) (start-in n B pB forward i o) in

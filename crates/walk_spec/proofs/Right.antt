@@ -1,8 +1,16 @@
--- Over nodes as built, a walk answers what the search is by definition, either way.
---   search, remaining, fwd-scan, bwd-scan, search-ends, search-scan, search-far: a search is a scan of the rest of the row
---   low, high: where the block of a bit begins and ends; start-in, start-leaves, begin: the starting block, and what its scan leaves
---   node-leaves: with start-leaves, what is left of r in a climb is never 0
---   walk-forward, walk-backward: the theorem; walk-answers: so no walk refuses
+-- The theorem: over nodes as built, a walk answers what the search is by definition, in both directions.
+--   search: the search by definition, `fwd` or `bwd`
+--   remaining: the scan of all bits that the search may read
+--   Inside, inside: the positions of a search that does not end at once
+--   fwd-scan, bwd-scan, search-scan: a search answers the position that the scan of these bits hits
+--   search-ends, search-far: the search is nothing if the walk ends at once, and if |r| > n
+--   low, high: a position is in its block: not before the first bit, and before the end
+--   start-in: the start block is a block of the row
+--   start-leaves: the scan of the start block never leaves the remainder 0
+--   begin: the bits that the search may read are those of the start block and those beyond it
+--   node-leaves: a passed node never leaves the remainder 0, so with start-leaves no climb has the remainder 0
+--   walk-forward, walk-backward: the theorem for the two directions
+--   walk-answers: no walk is refused
 -- Assumes nothing.
 use mathlib.Core.Path.{_≡_, refl, sym, ap, _∙_}
 use mathlib.Core.Bool.{Bool, true, false, _||_, true≢false}
@@ -15,6 +23,7 @@ use native.Mathlib.Decide.{decLt}
 use borrow.Author.Tests.{ltb-true, leb-true, leb-false, eqb-true, eqb-false}
 use lib.Dec.{leb, eqb}
 use lib.IntN.{ℤ, pos, _+ℤ_}
+use Rattle.row.specs.Limits.{maxBits}
 use Rattle.ints.specs.Sides.{size}
 use Rattle.row.specs.Answer.{Answer, at, nothing, refused}
 use Rattle.row.specs.Bits.{bitAt}
@@ -50,12 +59,12 @@ abbrev pub remaining : Way → List ℕ → ℕ → ℕ → ℤ → Scanned
 remaining forward ws n i = over forward (bitAt ws) (suc i) n
 remaining backward ws n i = over backward (bitAt ws) 0 i
 
--- neither of two tests
+-- if neither of two tests holds, the first does not hold and the second does not hold
 neither : (a b : Bool) → (a || b) ≡ false → (a ≡ false) × (b ≡ false)
 neither true b e = absurd (true≢false e)
 neither false b e = (refl, e)
 
--- the search does not end at once
+-- the positions i of a search that does not end at once
 abbrev pub Inside : Way → ℕ → ℕ → Type 0
 Inside forward n i = i + 1 < n
 Inside backward n i = (0 < i) × (i < n)
@@ -97,7 +106,7 @@ module _ (ws : List ℕ) (n i : ℕ) (r : ℤ) where
   search-scan forward h = fwd-scan
   search-scan backward h = bwd-scan (h .1)
 
-  -- r is further than all bits go
+  -- n bits cannot reach a difference r with |r| > n
   search-far : (w : Way) → Inside w n i → n < size r → search w ws n i r ≡ nothing
   unfolding over
   search-far w h l = search-scan w h ∙ go w h
@@ -106,7 +115,7 @@ module _ (ws : List ℕ) (n i : ℕ) (r : ℤ) where
       go forward h = ap hitAnswer (skip-far forward (bitAt ws) (n - suc i) (suc i) r (omega arith))
       go backward h = ap hitAnswer (skip-far backward (bitAt ws) (i - 0) 0 r (omega arith))
 
--- ---- the starting block
+-- ---- the start block
 module _ (n B : ℕ) (pB : 0 < B) where
   pub low : (x : ℕ) → x / B * B ≤ x
   low x = omega (arith, div-add-mod' x B)
@@ -121,7 +130,7 @@ module _ (n B : ℕ) (pB : 0 < B) where
   start-in forward i h = block-of (i + 1) h
   start-in backward i h = block-of (i - 1) (omega arith)
 
-  -- what the scan of the starting block leaves is not 0, on any bits
+  -- the scan of the start block never leaves the remainder 0, whatever the bits are
   pub start-leaves : (w : Way) (ws : List ℕ) (i : ℕ) (r q : ℤ) → endsAtOnce w n i ≡ false → startScan w ws n B i r ≡ Left q → q ≡ pos 0 → ⊥
   start-leaves forward ws i r q h =
       let l = inside forward n i h in
@@ -140,13 +149,13 @@ module _ (n B : ℕ) (pB : 0 < B) where
       rw (block-start ws n B pB (omega arith) ((i - 1) / B) (start-in backward i h))
       (over-split (bitAt ws) backward 0 ((i - 1) / B * B) i r (omega arith) (omega (arith, low (i - 1))))
 
--- ---- the whole
+-- ---- the whole walk
 search-answers : (w : Way) (ws : List ℕ) (n i : ℕ) (r : ℤ) (m : ℕ) → search w ws n i r ≡ refused m → ⊥
 search-answers forward ws n i r m e = rw e at (fwd-is ws n i r)
 search-answers backward ws n i r m e = rw e at (bwd-is ws n i r)
 
-module _ (ws : List ℕ) (n : ℕ) (s : List ℤ) (B : ℕ) (pB : 0 < B) (short : n ≤ 4294967296) (built : AsBuilt ws n s B) where
-  -- nor is what a node leaves that is passed over
+module _ (ws : List ℕ) (n : ℕ) (s : List ℤ) (B : ℕ) (pB : 0 < B) (short : n ≤ maxBits) (built : AsBuilt ws n s B) where
+  -- a passed node never leaves the remainder 0, if the remainder before it is not 0
   pub node-leaves : (w : Way) (k : ℕ) (r : ℤ) → k < count n B → (r ≡ pos 0 → ⊥) → holdsOn w (nodeAt s k) r ≡ false → passed w r (nodeAt s k .total) ≡ pos 0 → ⊥
   node-leaves w k r i z h =
       let some : 0 < n = elim (decLt 0 n) [ yes y ↦ y | no y ↦ absurd (omega (arith, ap (λ (l : Layout). l .leaves + l .inner) (layout-none n B (omega arith)))) ] in
@@ -178,10 +187,10 @@ module _ (ws : List ℕ) (n : ℕ) (s : List ℤ) (B : ℕ) (pB : 0 < B) (short 
     pub walk-answers : (m : ℕ) → walk w ws n s B i r .answer ≡ refused m → ⊥
     walk-answers m e = search-answers w ws n i r m (sym walk-right ∙ e)
 
-pub walk-forward : (ws : List ℕ) (n : ℕ) (s : List ℤ) (B : ℕ) → 0 < B → n ≤ 4294967296 → AsBuilt ws n s B
+pub walk-forward : (ws : List ℕ) (n : ℕ) (s : List ℤ) (B : ℕ) → 0 < B → n ≤ maxBits → AsBuilt ws n s B
     → (i : ℕ) (r : ℤ) → walk forward ws n s B i r .answer ≡ fwd ws n i r
 walk-forward ws n s B p h b = walk-right ws n s B p h b forward
 
-pub walk-backward : (ws : List ℕ) (n : ℕ) (s : List ℤ) (B : ℕ) → 0 < B → n ≤ 4294967296 → AsBuilt ws n s B
+pub walk-backward : (ws : List ℕ) (n : ℕ) (s : List ℤ) (B : ℕ) → 0 < B → n ≤ maxBits → AsBuilt ws n s B
     → (i : ℕ) (r : ℤ) → walk backward ws n s B i r .answer ≡ bwd ws n i r
 walk-backward ws n s B p h b = walk-right ws n s B p h b backward

@@ -1,7 +1,7 @@
--- How many nodes a walk examines, over any nodes: at most 3 h - 2, for h levels above the leaves.
---   down-seen: a descent of h levels examines 2 h at most
---   up-seen: a climb goes on to at most one node a level
---   walk-seen: the whole, for each h of at least 1 with room for the leaves, the least of them too
+-- A walk over any nodes examines at most 3h - 2 nodes, where h is the height of the root (SCOPE, How a search walks: What counts as examined).
+--   down-seen: a descent of h levels examines at most 2h nodes
+--   up-seen: a climb from height h examines at most one node per level; with its descent at most 3t - 2 - h, where t is the height of the root
+--   walk-seen: the bound for the whole walk; it holds for every h >= 1 with at most 2^h block leaves, so for the smallest such h too
 -- Assumes nothing.
 use mathlib.Core.Path.{_≡_}
 use mathlib.Core.Bool.{false}
@@ -47,7 +47,7 @@ module _ (w : Way) (ws : List ℕ) (n : ℕ) (s : List ℤ) (B : ℕ) where
       (either P (leb m (farther w k)) (omega arith)
       (either P (fits y) (either P (holdsOn w y q) (omega (arith, down-seen h (farther w k) q (suc (suc c)))) (omega arith)) (omega arith)))) (omega arith))
 
-  -- of t levels, h lie below node k
+  -- t is the height of the root, h the height of node k
   up-seen : (t f h k : ℕ) (r : ℤ) (c : ℕ) → Place t h k → afterClimb w ws n s B (climb w m s f h k r c) .seen ≤ c + (3 * t - (2 + h))
   unfolding climb
   up-seen t zero h k r c p = omega arith

@@ -1,7 +1,11 @@
--- The climb and the descent by what they test, one law a branch. A climb is allowed as many steps as the number of its node.
---   enough: more steps make no difference
---   climb-root, climb-up, climb-beside: one step up; climb-alone, climb-turn, climb-pass: by what is found of the sibling
---   descend-leaf, descend-near, descend-far: one step down
+-- Climb and descent by cases, one law per branch of their definitions. A climb from node k is allowed k steps.
+--   enough: any number of allowed steps that is at least k gives the same climb
+--   climb-root: at the root, the climb leaves the tree
+--   climb-up: at a node without a sibling beyond it, the climb goes on at the parent
+--   climb-beside: at any other node the sibling beyond it decides
+--   climb-alone, climb-turn, climb-pass: this sibling does not exist, qualifies, or is passed
+--   descend-leaf: a descent with no level left stays at its node
+--   descend-near, descend-far: the first child qualifies; the first child is passed and the second qualifies
 -- Assumes nothing.
 use mathlib.Core.Path.{_≡_, refl, sym}
 use mathlib.Core.Bool.{true, false, cond}
@@ -19,7 +23,7 @@ use Rattle.mmt_node.specs.Nodes.{nodeAt}
 use Rattle.walk_spec.specs.Walk.{fits, holdsOn, examine, Climb, turn, out, misfit, lastSibling, siblingBeyond, climb, Descent, leaf, lost, nearer, farther, descend}
 
 module _ (w : Way) (m : ℕ) (s : List ℤ) where
-  -- ---- up
+  -- ---- the climb
   root : (f h k : ℕ) (r : ℤ) (c : ℕ) → k ≡ 0 → out c ≡ climb w m s f h k r c
   unfolding climb
   root zero h k r c z = refl
@@ -33,7 +37,7 @@ module _ (w : Way) (m : ℕ) (s : List ℤ) where
       let j = (k - 1) / 2 in
       rw (enough f g (suc h) j r c (omega arith) (omega arith), enough f g (suc h) j _ (suc c) (omega arith) (omega arith))
 
-  -- on from the parent
+  -- the climb goes on at the parent
   abbrev parent : ℕ → ℕ → ℤ → ℕ → Climb
   parent h k q c = climb w m s ((k - 1) / 2) (h + 1) ((k - 1) / 2) q c
 
@@ -79,7 +83,7 @@ module _ (w : Way) (m : ℕ) (s : List ℤ) where
                 → climb w m s ((k - 1) / 2) (h + 1) ((k - 1) / 2) (passed w r (beside .total)) (c + 1) ≡ climb w m s k h k r c
             climb-pass y = rw (← climb-step h k r c, ne-eqb k 0 z, e, lt-leb m (siblingBeyond w k) l, f, y)
 
-  -- ---- down
+  -- ---- the descent
   module _ (h k : ℕ) (r : ℤ) (c : ℕ) where
     pub descend-leaf : h ≡ 0 → leaf k r c ≡ descend w m s h k r c
     unfolding descend

@@ -1,9 +1,15 @@
--- The bits of a node and the bits beyond it, scanned either way.
---   over, inTurn, over-none, over-split: the scan of a stretch a..t
---   bitsOf, restOf: the scans of node k's bits, and of those beyond it
---   children: a node's bits are its children's
---   rest-last, rest-beside, rest-root: beyond a node is what is beyond its parent, behind a sibling's bits if there is one; beyond the root is nothing
---   block-place, block-start, block-end, leaf-bits: a leaf's bits are those of its block
+-- Scans of the bits of a node and of the bits beyond it, in both directions.
+--   over: the scan of the bits from position a up to t - 1
+--   inTurn: the scans of a left part and a right part, in the order of the direction
+--   over-none: the scan of no bits leaves the remainder unchanged
+--   over-split: the scan of a stretch consists of the scans of its two parts
+--   bitsOf, restOf: the scan of the bits of node k, and of the bits beyond it
+--   children: the bits of a node are those of its two children
+--   rest-last: beyond a node without a sibling beyond it are the bits beyond its parent
+--   rest-beside: beyond any other node are the bits of its sibling, then the bits beyond its parent
+--   rest-root: beyond the root are no bits
+--   block-place, block-start, block-end: the height of block leaf b, and the start and the end of its bits
+--   leaf-bits: the bits of a block leaf are those of its block
 -- Assumes nothing.
 use mathlib.Core.Path.{_≡_, ap, _∙_}
 use mathlib.Core.Bool.{true, false}
@@ -26,11 +32,11 @@ use Rattle.mmt_layout.proofs.Places.{inner-is, count-is, blockAt, block-in, blo
 use Rattle.mmt_node.proofs.Covered.{startOf, top, start-child, start-le, start-mono, start-leaf}
 use Rattle.walk_spec.specs.Walk.{lastSibling, siblingBeyond, nearer, farther}
 
--- the scan of the bits a..t
+-- the scan of the bits from position a up to t - 1
 unfoldable pub over : Way → (ℕ → ℕ) → ℕ → ℕ → ℤ → Scanned
 over w f a t r = scan w f (t - a) a r
 
--- a left part and a right one, in the order in which they are met
+-- the scans x of a left part and y of a right part, in the order of the direction
 abbrev pub inTurn : Way → (ℤ → Scanned) → (ℤ → Scanned) → ℤ → Scanned
 inTurn forward x y r = scanOnward (x r) y
 inTurn backward x y r = scanOnward (y r) x
@@ -51,13 +57,13 @@ module _ (f : ℕ → ℕ) where
       let d : a + (m - a) ≡ m = omega arith in
       rw (e, d) at (scan-split backward f (t - m) (m - a) a r)
 
--- ---- node k, h levels above the leaves
+-- ---- node k at height h
 
--- the scan of its bits
+-- the scan of the bits of node k
 abbrev pub bitsOf : Way → List ℕ → ℕ → ℕ → ℕ → ℕ → ℤ → Scanned
 bitsOf w ws n B h k = over w (bitAt ws) (startOf n B h k) (startOf n B h (suc k))
 
--- the scan of the bits beyond it
+-- the scan of the bits beyond node k: those after its bits forward, those before them backward
 abbrev pub restOf : Way → List ℕ → ℕ → ℕ → ℕ → ℕ → ℤ → Scanned
 restOf forward ws n B h k = over forward (bitAt ws) (startOf n B h (suc k)) n
 restOf backward ws n B h k = over backward (bitAt ws) 0 (startOf n B h k)
@@ -118,7 +124,7 @@ module _ (ws : List ℕ) (n B : ℕ) (pB : 0 < B) where
       let e : reach h k - suc (innerFor (leaves n B)) ≡ 0 = omega (arith, root-reach h k z p .1) in
       over-none (bitAt ws) backward 0 (startOf n B h k) r (rw e (omega arith))
 
-  -- ---- a leaf, by the number of its block
+  -- ---- block leaf b
   module _ (some : 0 < n) where
     module _ (b : ℕ) (l : b < leaves n B) where
       pub block-place : Place (top n B) 0 (inner n B + b)

@@ -1,15 +1,18 @@
--- What three numbers tell a walk for r of the bits that they are of.
---   Told: a scan of the bits finds a position, and the numbers hold r; or it passes over them, and they do not; told-hit: the first
---   back-leaves: any numbers that are passed over backward leave something
---   summary-fit: the numbers of bits, be they none, are in range; numbers-told: what they tell, either way
+-- What a summary says about the bits that it belongs to, for a walk with the remainder r.
+--   Told: either the scan of the bits hits a position and the summary qualifies, or the scan passes all bits and it does not qualify
+--   told-hit: if the scan hits a position, the summary qualifies
+--   back-leaves: going backward, any three values that do not qualify leave a remainder other than 0
+--   summary-fit: the summary of up to 2^32 bits is in range
+--   numbers-told: the summary of any stretch, also of an empty one, satisfies `Told` if r is not 0
 -- Assumes nothing.
 use mathlib.Core.Path.{_≡_, refl, sym, _∙_}
 use mathlib.Core.Logic.{⊎-elim}
 use mathlib.Core.Bool.{Bool, true, false, true≢false}
 use Prim.Native.Nat.{ℕ, zero, suc, _≤_}
 use native.Mathlib.Omega.{arith}
-use lib.IntN.{ℤ, pos, negsuc, _+ℤ_}
+use lib.IntN.{ℤ, pos, negsuc, _+ℤ_, negℤ}
 use lib.Signed.{leZ, _≤ℤ_}
+use Rattle.row.specs.Limits.{maxBits}
 use Rattle.ints.specs.Sides.{size}
 use Rattle.ints.proofs.Shapes.{zsum}
 use Rattle.ints.proofs.Order.{le-test}
@@ -25,14 +28,14 @@ use Rattle.bits_stretch.proofs.Meets.{scan-none, scan-leaves}
 use Rattle.bits_stretch.proofs.Covers.{summary-total, holds-low, holds-top, back-zero, back-cases, skip-forward, skip-backward, hold-forward, hold-backward}
 use Rattle.walk_spec.specs.Walk.{inRange, fits, holdsOn}
 
-near-yes : (z : ℤ) → size z ≤ 4294967296 → inRange z ≡ true
+near-yes : (z : ℤ) → size z ≤ maxBits → inRange z ≡ true
 unfolding inRange
 near-yes z h =
-    let l : negsuc 4294967295 ≤ℤ z = omega zsum in
-    let g : z ≤ℤ pos 4294967296 = omega zsum in
-    and-both (leZ (negsuc 4294967295) z) (leZ z (pos 4294967296)) (le-test l) (le-test g)
+    let l : negℤ (pos maxBits) ≤ℤ z = omega zsum in
+    let g : z ≤ℤ pos maxBits = omega zsum in
+    and-both (leZ (negℤ (pos maxBits)) z) (leZ z (pos maxBits)) (le-test l) (le-test g)
 
--- bits that are none hold 0 alone
+-- the summary of no bits qualifies only for the remainder 0
 none-for : (r : ℤ) → holdsFor none r ≡ true → r ≡ pos 0
 unfolding none
 none-for r h = omega (zsum, holds-low none r h, holds-top none r h)
@@ -44,7 +47,7 @@ none-holds backward r h =
     let s : r +ℤ pos 0 ≡ pos 0 = ⊎-elim (λ z. z) (none-for (r +ℤ pos 0)) (back-cases none (r +ℤ pos 0) h) in
     omega (zsum, s)
 
--- y is what a scan of the bits for r gives, x are their numbers
+-- x is the summary of some bits, and y is the result of their scan with the remainder r
 pub data Told (w : Way) (r : ℤ) (x : Summary) (y : Scanned) : Type 0 where
   here : (j : ℕ) → y ≡ Hit j → holdsOn w x r ≡ true → Told w r x y
   past : y ≡ Left (passed w r (x .total)) → holdsOn w x r ≡ false → (passed w r (x .total) ≡ pos 0 → ⊥) → Told w r x y
@@ -53,12 +56,12 @@ pub told-hit : {w : Way} {r : ℤ} {x : Summary} {y : Scanned} (j : ℕ) → Tol
 told-hit j (here i b t) e = t
 told-hit j (past b t z) e = let o : _≡_ {A = ℕ} 0 1 = cc in absurd (omega arith)
 
--- numbers passed over backward, be they whatever they are, leave something
+-- going backward, any three values that do not qualify leave a remainder other than 0
 pub back-leaves : (x : Summary) (r : ℤ) → holdsOn backward x r ≡ false → passed backward r (x .total) ≡ pos 0 → ⊥
 back-leaves x r h z = true≢false (sym (back-zero x (r +ℤ x .total) z) ∙ h)
 
 module _ (f : ℕ → ℕ) (a : ℕ) where
-  pub summary-fit : (c : ℕ) → c ≤ 4294967296 → fits (summaryOf f a c) ≡ true
+  pub summary-fit : (c : ℕ) → c ≤ maxBits → fits (summaryOf f a c) ≡ true
   unfolding fits
   summary-fit c h =
       let x = summaryOf f a c in

@@ -1,7 +1,9 @@
--- Children and siblings, whichever way a walk goes, and choices by a test.
---   kin: a node and the sibling beyond it are the children of one node
---   near-place, far-place, side-place: where the child asked first, the other one and the sibling stand
---   chosen, either: whichever of two is chosen, by what the test found or by none of it; alike: two choices by one test
+-- Children and siblings in both directions, and laws of a choice by a test.
+--   kin: a node and the sibling beyond it are the two children of one parent
+--   near-place, far-place, side-place: the heights of the child examined first, of the other child, and of the sibling
+--   chosen: a property holds for a choice if each alternative has it, given what the test found
+--   either: the same if both alternatives have the property in any case
+--   alike: two choices by one test agree if their alternatives agree
 -- Assumes nothing.
 use mathlib.Core.Path.{_≡_, refl}
 use mathlib.Core.Bool.{Bool, true, false, cond}
@@ -35,7 +37,7 @@ chosen P false p q = q refl
 pub either : {A : Type 0} (P : A → Type 0) (t : Bool) {x y : A} → P x → P y → P (cond t x y)
 either P t p q = chosen P t (λ e. p) (λ e. q)
 
--- two choices by one test, alike as f and g see them
+-- two choices by one test have the same values under f and g if their alternatives do
 pub alike : {A B C : Type 0} (f : A → C) (g : B → C) (t : Bool) {x y : A} {u v : B} → f x ≡ g u → f y ≡ g v → f (cond t x y) ≡ g (cond t u v)
 alike f g true p q = p
 alike f g false p q = q

@@ -1,4 +1,4 @@
-// How a search walks: scan of the starting block, climb to a node that holds the position, descent to a leaf, scan of that
-// block. There is no code here: specs/ holds the definition, over any nodes, and proofs/ the theorem that over nodes as built a
-// walk answers what the search is by definition. The code stands in four crates of its own, so that an edit of one part of it
-// rechecks neither the theorem nor the other parts.
+// Specification of the walk of a search: scan of the start block, climb, descent, scan of the target block (SCOPE, How a search walks).
+// There is no code here. specs/ defines the walk over any node buffer.
+// proofs/ has the theorem: over nodes as built, the walk answers what the search is by definition.
+// The code is in walk_examine, walk_climb, walk_descend and walk_code, so that a change to one of them does not recheck this theorem.

@@ -1,6 +1,8 @@
--- What crosses for an answer.
---   number-small: refusals have small numbers; below, negsuc-fits: -1 less such a number, as the machine has it
---   small-at: a position is at most 2^32
+-- Laws of the i64 that encodes an answer.
+--   number-small: the number of a refusal is below 9
+--   below: for n below 9 the machine computes -1 - n as `negsuc n`
+--   negsuc-fits: for n below 9, `negsuc n` fits into an i64
+--   small-at: the position of a `Small` answer is at most 2^32
 -- Assumes nothing.
 use mathlib.Core.Path.{_≡_}
 use Prim.Native.Nat.{ℕ, _≤_, _<_}
@@ -25,7 +27,7 @@ number-small NotAParenthesis = omega arith
 number-small NotOneTree = omega arith
 number-small NodesMisfit = omega arith
 
--- -1 less a small number, as the machine has it
+-- What the machine computes for -1 - n if n is small.
 pub below : (n : ℕ) → n < 9 → negsuc 0 -ℤ toZ w64 n ≡ negsuc n
 below n h = rw (toZ-pos w64 n (omega arith)) (under n)
 

@@ -1,9 +1,18 @@
--- Runs of words and numbers in bytes.
---   length-made, made-at: the list g i, g (i + 1), ..
---   Each, more, each-made: the elements stored so far, one more, and all
---   prefix-fits, prefix-made: a prefix that is lent and filled
---   length-bytes, bytes-append, over-none, over-next, over-more, over-all: words written so far, none, one more, and all
---   getD-map: an element of signed numbers as words
+-- Laws of lists of words and signed numbers in a byte slice.
+--   length-made: `tabulate g i c` has c elements
+--   made-at: element j of `tabulate g i c` is `g (i + j)`
+--   Each: the claim that the elements 0 to c - 1 of a list are g 0 to g (c - 1)
+--   more: storing `g i` as element i extends this claim from i to i + 1
+--   each-made: a list of c elements that satisfies the claim for c is `tabulate g 0 c`
+--   prefix-fits: for a prefix of the length that `fit` gives, there are enough bytes
+--   prefix-made: once such a prefix is filled, it is the first c elements of the whole slice
+--   length-bytes: k words are 8k bytes
+--   bytes-append: the bytes of two lists of words follow one another
+--   over-none: with no word written the bytes are unchanged
+--   over-next: writing word i turns i written words into i + 1
+--   over-more: over-next for bytes and a word that are given by equations
+--   over-all: with all words written the bytes are those of the definition
+--   getD-map: element i of a mapped list is the image of element i
 -- Assumes nothing.
 use mathlib.Core.Path.{_≡_, refl, sym, ap, _∙_}
 use mathlib.Core.List.{List, [], _∷_, _++_, map, append-assoc}
@@ -15,7 +24,7 @@ use borrow.Author.Count.{below-more}
 use Rattle.wire.specs.Limit.{fit}
 use Rattle.wire.specs.Bytes.{tabulate, eight, putAt, bytesOf, wordsOver}
 
--- ---- lists that are made
+-- ---- lists made by a rule
 module _ {A : Type 0} where
   pub length-made : (g : ℕ → A) (i c : ℕ) → length (tabulate g i c) ≡ c
   unfolding tabulate
@@ -41,11 +50,11 @@ module _ {A : Type 0} where
       ext-getD d a (tabulate g 0 c) (e ∙ sym (length-made g 0 c))
       (λ j l. f j (omega arith) ∙ ap g (omega arith) ∙ sym (made-at g d 0 c j (omega arith)))
 
--- the first c elements of z are lent; there are bytes enough for them
+-- The first c elements of z are passed on as a slice. There are enough bytes to decode them.
 pub prefix-fits : {A : Type 0} (m : ℕ) (z : List A) (c : ℕ) → c ≡ fit m (length z) → 8 * length (take c z) ≤ m
 prefix-fits m z c e = let h : c ≤ length z = omega arith in rw (length-take-le c z h) (omega arith)
 
--- they come back as l, in front of the rest
+-- That slice comes back as l, followed by the other elements r.
 pub prefix-made : {A : Type 0} (g : ℕ → A) (z l r : List A) (c : ℕ) → c ≤ length z → l ≡ tabulate g 0 (length (take c z))
     → take c (l ++ r) ≡ tabulate g 0 c
 prefix-made g z l r c h e =
@@ -53,7 +62,7 @@ prefix-made g z l r c h e =
     let q : l ≡ tabulate g 0 c = e ∙ ap (tabulate g 0) t in
     take-at l r c (ap length q ∙ length-made g 0 c) ∙ q
 
--- ---- words that are written
+-- ---- words written as bytes
 length-bytes : (ws : List ℕ) → length (bytesOf ws) ≡ 8 * length ws
 unfolding bytesOf
 length-bytes [] = refl

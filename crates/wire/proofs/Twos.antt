@@ -1,6 +1,11 @@
--- Two's complement by -1 - x, which has no number that it cannot hold.
---   under, over: -1 less a number; high: a word of the upper half
---   Neg, neg, Pos, non: a signed number below 0, or not; flip, back: what the machine has of one below 0
+-- Two's complement by -1 - x. Unlike -x, this difference exists for every i64.
+--   under: -1 minus n is `negsuc n`
+--   over: -1 minus `negsuc n` is n
+--   high: a word of 2^63 or more encodes -1 minus its complement
+--   Neg, neg: a negative i64 is `negsuc m` with m below 2^63
+--   Pos, non: an i64 that is not negative is `pos m` with m below 2^63
+--   flip: for a negative z the machine computes -1 - z as m
+--   back: the greatest u64 minus m has the bits of z
 -- Assumes nothing.
 use mathlib.Core.Path.{_≡_, refl, sym, ap, _∙_}
 use mathlib.Core.Bool.{Bool, true, false}
@@ -22,7 +27,7 @@ under (suc n) = rw zero-add
 pub over : (n : ℕ) → negsuc 0 -ℤ negsuc n ≡ pos n
 over n = let e : suc n - 1 ≡ n = omega arith in simp (le-ltb (suc n) 1 (omega arith), e)
 
--- a word of the upper half is -1 less its complement
+-- A word of 2^63 or more encodes -1 minus its complement.
 pub high : (w : ℕ) → 2 ^ 63 ≤ w → w < 2 ^ 64 → negsuc 0 -ℤ toZ w64 (18446744073709551615 - w) ≡ toZ w64 w
 high w l h =
     let e : 2 ^ 64 - suc w ≡ 18446744073709551615 - w = omega arith in
@@ -30,7 +35,7 @@ high w l h =
     let q : toZ w64 w ≡ negsuc (18446744073709551615 - w) = simp (le-ltb w (2 ^ 63) l, e) in
     rw (p, q) (under _)
 
--- a signed number that is below 0
+-- A negative number: z = -(m + 1) with m below 2^63.
 pub record Neg (z : ℤ) : Type 0 where
   pub m : ℕ
   pub is : z ≡ negsuc m
@@ -40,7 +45,7 @@ pub neg : (z : ℤ) → SFits w64 z → ltZ (toZ w64 (ofZ w64 z)) (pos 0) ≡ tr
 neg (pos n) f e = let z : ltb n 0 ≡ true = rw (toZ-ofZ w64 (pos n) f) at e in absurd (omega (arith, ltb-true n 0 z))
 neg (negsuc n) f e = record { m = n; is = refl; small = f .sfits }
 
--- and one that is not
+-- A number that is not negative: z = m with m below 2^63.
 pub record Pos (z : ℤ) : Type 0 where
   pub m : ℕ
   pub is : z ≡ pos m
@@ -53,7 +58,7 @@ non (negsuc n) f e =
     let y : _≡_ {A = ℕ} 0 1 = cc in
     absurd (omega arith)
 
--- -1 - z, as the machine has it
+-- What the machine computes for -1 - z if z is negative.
 pub flip : (z : ℤ) (f : SFits w64 z) (n : Neg z) → toZ w64 (ofZ w64 (negsuc 0 -ℤ toZ w64 (ofZ w64 z))) ≡ pos (n .m)
 flip z f n =
     let e : negsuc 0 -ℤ toZ w64 (ofZ w64 z) ≡ pos (n .m) = rw (toZ-ofZ w64 z f, n .is) (over _) in

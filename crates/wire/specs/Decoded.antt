@@ -1,4 +1,4 @@
--- What bytes that cross hold: the words of a row and the numbers of its nodes, as many as there is room for.
+-- The words and node numbers that are decoded from bytes (SCOPE, The C functions).
 -- Assumes nothing.
 use mathlib.Core.List.{List}
 use Prim.Native.Nat.{ℕ}
@@ -7,10 +7,10 @@ use lib.ListN.{length}
 use Rattle.wire.specs.Limit.{wordRoom, numberRoom, fit}
 use Rattle.wire.specs.Bytes.{wordsIn, numbersIn}
 
--- the words of a row's bytes, at most 64
+-- The words decoded from the bytes of a row, at most 64.
 abbrev pub rowWords : List ℕ → List ℕ
 rowWords row = wordsIn row (fit (length row) wordRoom)
 
--- the node numbers of bytes, at most 3,069
+-- The node numbers decoded from the bytes of a node buffer, at most 3,069.
 abbrev pub nodeNumbers : List ℕ → List ℤ
 nodeNumbers nodes = numbersIn nodes (fit (length nodes) numberRoom)

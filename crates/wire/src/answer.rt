@@ -1,5 +1,5 @@
-// Answers as one i64: the position; 1 or 0 for yes and no; 0 for a build done; -1 for nothing; -1 less the number for a
-// refusal. A position is at most 2^32, so that it is an i64.
+// Answers as one i64: the value, -1 for nothing, -1 - k for refusal k. Yes is 1, no is 0, and the success of a build is 0.
+// A position or a bit count is at most 2^32, so it fits into an i64.
 ghost use mathlib.Core.Path.{_≡_};
 ghost use lib.IntN.{negsuc};
 ghost use Rattle.row.specs.Answer.{numberOf, paperFound, paperTold, paperBuilt, paperRead};
@@ -10,12 +10,14 @@ use row::Read;
 use row::Refusal;
 use row::Told;
 
+// Returns the i64 of a refusal.
 pub fn refused(k: Refusal) -> i64
     ensures { λ r. ⌜ r ≡ negsuc (numberOf k) ⌝ }
 {
     -1 - (row::number(k) as i64)
 }
 
+// Returns the i64 of an answer of type `Found`: a position, nothing or a refusal.
 pub fn found(a: Found) -> i64
     requires { ⌜ Small (paperFound a) ⌝ }
     ensures { λ r. ⌜ r ≡ wireOf (paperFound a) ⌝ }
@@ -27,6 +29,7 @@ pub fn found(a: Found) -> i64
     }
 }
 
+// Returns the i64 of a yes-or-no answer.
 pub fn told(a: Told) -> i64
     ensures { λ r. ⌜ r ≡ wireOf (paperTold a) ⌝ }
 {
@@ -38,6 +41,7 @@ pub fn told(a: Told) -> i64
     }
 }
 
+// Returns the i64 of the answer of a build.
 pub fn built(a: Built) -> i64
     ensures { λ r. ⌜ r ≡ wireOf (paperBuilt a) ⌝ }
 {
@@ -47,6 +51,7 @@ pub fn built(a: Built) -> i64
     }
 }
 
+// Returns the i64 of the answer of the text reader.
 pub fn read(a: Read) -> i64
     requires { ⌜ Small (paperRead a) ⌝ }
     ensures { λ r. ⌜ r ≡ wireOf (paperRead a) ⌝ }

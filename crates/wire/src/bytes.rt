@@ -1,4 +1,4 @@
-// One word or signed number in bytes.
+// One word or one signed number in eight bytes, the least significant byte first.
 ghost use mathlib.Core.Path.{_≡_};
 ghost use Prim.Native.Nat.{_+_, _≤_, _<_};
 ghost use lib.ListN.{length};
@@ -6,23 +6,26 @@ ghost use mir.Syntax.{w64};
 ghost use mir.Val.{toZ, ofZ};
 ghost use Rattle.wire.specs.Bytes.{halfAt, wordAt, numberAt, putAt};
 
-// The signed number that has these 64 bits. The least i64 has them too, so nothing is negated.
+// 2^63. A word of this value or more encodes a negative number.
+const SIGN: u64 = 9223372036854775808;
+
+// Returns the signed number that has these 64 bits. It computes -1 - x and negates nothing, because the least i64 has no negation.
 fn of_word(w: u64) -> i64
     ensures { λ r. ⌜ r ≡ toZ w64 w ⌝ }
 {
-    if w < 9223372036854775808 {
+    if w < SIGN {
         w as i64
     } else {
-        -1 - ((18446744073709551615 - w) as i64)
+        -1 - ((u64::MAX - w) as i64)
     }
 }
 
-// The 64 bits of a signed number.
+// Returns the 64 bits of a signed number, in two's complement.
 pub fn to_word(z: i64) -> u64
     ensures { λ r. ⌜ r ≡ ofZ w64 z ⌝ }
 {
     if z < 0 {
-        18446744073709551615 - ((-1 - z) as u64)
+        u64::MAX - ((-1 - z) as u64)
     } else {
         z as u64
     }
@@ -34,7 +37,7 @@ fn wide(x: u8) -> u64
     x as u64
 }
 
-// The number whose four bytes begin at i.
+// Returns the number in the four bytes from i on.
 fn half(b: &[u8], i: usize) -> u64
     requires { ⌜ i + 4 ≤ length (now b) ⌝ }
     ensures { λ r. ⌜ (r ≡ halfAt (now (b .entry)) i) × (r < 4294967296) ⌝ }
@@ -42,7 +45,7 @@ fn half(b: &[u8], i: usize) -> u64
     wide(b[i]) + 256 * wide(b[i + 1]) + 65536 * wide(b[i + 2]) + 16777216 * wide(b[i + 3])
 }
 
-// The word whose eight bytes begin at i.
+// Returns the word in the eight bytes from i on.
 pub fn word(b: &[u8], i: usize) -> u64
     requires { ⌜ i + 8 ≤ length (now b) ⌝ }
     ensures { λ r. ⌜ r ≡ wordAt (now (b .entry)) i ⌝ }
@@ -50,7 +53,7 @@ pub fn word(b: &[u8], i: usize) -> u64
     half(b, i) + 4294967296 * half(b, i + 4)
 }
 
-// The signed number whose eight bytes begin at i.
+// Returns the signed number in the eight bytes from i on.
 pub fn number(b: &[u8], i: usize) -> i64
     requires { ⌜ i + 8 ≤ length (now b) ⌝ }
     ensures { λ r. ⌜ r ≡ numberAt (now (b .entry)) i ⌝ }
@@ -58,7 +61,7 @@ pub fn number(b: &[u8], i: usize) -> i64
     of_word(word(b, i))
 }
 
-// The eight bytes from i on become those of w.
+// Writes the word w into the eight bytes from i on.
 pub fn put(b: &mut [u8], i: usize, w: u64)
     requires { ⌜ i + 8 ≤ length (now b) ⌝ }
     ensures { λ _. ⌜ now (b .exit) ≡ putAt (now (b .entry)) i w ⌝ }
@@ -73,7 +76,7 @@ pub fn put(b: &mut [u8], i: usize, w: u64)
     b[i + 7] = (w / 72057594037927936) as u8;
 }
 
-// The eight bytes from i on become those of z.
+// Writes the signed number z into the eight bytes from i on.
 pub fn put_number(b: &mut [u8], i: usize, z: i64)
     requires { ⌜ i + 8 ≤ length (now b) ⌝ }
     ensures { λ _. ⌜ now (b .exit) ≡ putAt (now (b .entry)) i (ofZ w64 z) ⌝ }

@@ -1,10 +1,12 @@
-// How rows, nodes and answers cross to other languages: words and numbers as eight bytes, answers as one i64.
+// How rows, node numbers and answers cross the C boundary (SCOPE, The C functions).
 //
-// A row word or node number is eight bytes, least significant first, negative ones in two's complement. Up to seven bytes
-// left over do not count. Rows that cross as bytes have at most 4,096 bits, so that their words and their nodes, at the
-// smallest block, fit into arrays: 64 words, and 3 * (512 + 511) numbers.
+// A row word or a node number is eight bytes, the least significant byte first. Negative numbers are in two's complement.
+// One to seven bytes at the end are ignored. An answer is one i64.
 //
-// Nothing here refuses: a call is lent what fits, and tests that.
+// A row that crosses as bytes has at most 4,096 bits. So its words and its node numbers fit into arrays of fixed size:
+// 64 words and 3 * (512 + 511) = 3,069 node numbers, which is what the smallest block size needs.
+//
+// No function here refuses anything. The calls test the words and numbers that were decoded.
 mod answer;
 mod bytes;
 mod limit;

@@ -1,4 +1,4 @@
-// Runs of words and signed numbers in bytes, from the first byte on.
+// Lists of words and of signed numbers in a byte slice, from its first byte on.
 ghost use mathlib.Core.Path.{_≡_};
 ghost use Prim.Native.Nat.{_*_, _≤_};
 ghost use lib.ListN.{length, take};
@@ -10,7 +10,7 @@ use crate::bytes::put_number;
 use crate::bytes::word;
 use crate::limit::fitting;
 
-// Each word of out becomes the one at its place in bytes.
+// Decodes one word from `bytes` into each entry of `out`.
 fn read_words(bytes: &[u8], out: &mut [u64])
     requires { ⌜ 8 * length (now out) ≤ length (now bytes) ⌝ }
     ensures { λ _. ⌜ now (out .exit) ≡ wordsIn (now (bytes .entry)) (length (now (out .entry))) ⌝ }
@@ -22,7 +22,7 @@ fn read_words(bytes: &[u8], out: &mut [u64])
     }
 }
 
-// Each number of out becomes the one at its place in bytes.
+// Decodes one signed number from `bytes` into each entry of `out`.
 fn read_numbers(bytes: &[u8], out: &mut [i64])
     requires { ⌜ 8 * length (now out) ≤ length (now bytes) ⌝ }
     ensures { λ _. ⌜ now (out .exit) ≡ numbersIn (now (bytes .entry)) (length (now (out .entry))) ⌝ }
@@ -34,7 +34,7 @@ fn read_numbers(bytes: &[u8], out: &mut [i64])
     }
 }
 
-// As many words as out has room for, and how many.
+// Decodes the words of `bytes` into `out`, as many as `out` has room for. Returns how many.
 pub fn take_words(bytes: &[u8], out: &mut [u64]) -> usize
     ensures { λ r. ⌜ r ≡ fit (length (now (bytes .entry))) (length (now (out .entry))) ⌝ }
     ensures { λ r. ⌜ take r (now (out .exit)) ≡ wordsIn (now (bytes .entry)) r ⌝ }
@@ -44,7 +44,7 @@ pub fn take_words(bytes: &[u8], out: &mut [u64]) -> usize
     c
 }
 
-// As many numbers as out has room for, and how many.
+// Decodes the signed numbers of `bytes` into `out`, as many as `out` has room for. Returns how many.
 pub fn take_numbers(bytes: &[u8], out: &mut [i64]) -> usize
     ensures { λ r. ⌜ r ≡ fit (length (now (bytes .entry))) (length (now (out .entry))) ⌝ }
     ensures { λ r. ⌜ take r (now (out .exit)) ≡ numbersIn (now (bytes .entry)) r ⌝ }
@@ -54,7 +54,7 @@ pub fn take_numbers(bytes: &[u8], out: &mut [i64]) -> usize
     c
 }
 
-// The words, from the first byte on; bytes past them stay.
+// Writes the words to `bytes`, from the first byte on. The bytes after them are unchanged.
 pub fn write_words(words: &[u64], bytes: &mut [u8])
     requires { ⌜ 8 * length (now words) ≤ length (now bytes) ⌝ }
     ensures { λ _. ⌜ now (bytes .exit) ≡ wordsOver (now (words .entry)) (now (bytes .entry)) ⌝ }
@@ -66,7 +66,7 @@ pub fn write_words(words: &[u64], bytes: &mut [u8])
     }
 }
 
-// The numbers, from the first byte on; bytes past them stay.
+// Writes the signed numbers to `bytes`, from the first byte on. The bytes after them are unchanged.
 pub fn write_numbers(numbers: &[i64], bytes: &mut [u8])
     requires { ⌜ 8 * length (now numbers) ≤ length (now bytes) ⌝ }
     ensures { λ _. ⌜ now (bytes .exit) ≡ numbersOver (now (numbers .entry)) (now (bytes .entry)) ⌝ }

@@ -1,4 +1,4 @@
--- `line::admit_tree` meets its contract: each arm by what the test told. Assumes nothing.
+-- `app_line::admit_tree` refuses a row that is not one tree by 7. Each arm follows from the answer of the one-tree test. Assumes nothing.
 use mathlib.Core.Path.{sym, ap, _∙_}
 use Rattle.row.specs.Answer.{paperTold}
 use Rattle.app_line.proofs.Line.{tree-yes, tree-no, tree-refused, tree-nothing}

@@ -1,5 +1,5 @@
--- `line::line_end` meets its contract. The loop's invariant: the line ends as far behind i as its rest from i on does. The
--- measure is what is left of the length. Assumes nothing.
+-- `app_line::line_end` finds the end of the line. Invariant of the loop: i plus the end of the line in the bytes from i on is the end of the
+-- line in all bytes. Measure: the bytes left. Assumes nothing.
 use mathlib.Core.Path.{_≡_}
 use Prim.Native.Nat.{_+_, _-_, _≤_}
 use native.Mathlib.Omega.{arith}

@@ -1,7 +1,9 @@
--- `line::read_line` meets its contract: too long a line, or what the text reader answers. Assumes nothing.
+-- `app_line::read_line` reads the text of the line into the words. Either the line is too long, or the text reader gives the answer.
+-- Assumes nothing.
 use mathlib.Core.Path.{_≡_, _∙_}
 use Prim.Native.Nat.{_≤_, _<_}
 use lib.ListN.{length}
+use Rattle.row.specs.Limits.{maxShortBits}
 use Rattle.app_line.specs.Input.{lineEnd, line}
 use Rattle.app_line.proofs.Line.{line-many, words-many, line-read, words-read}
 use native.Mathlib.Omega.{arith}
@@ -16,7 +18,7 @@ returns : tie.Need-returns
 returns c =
     let e = c .before .line-end .ensures .1 in
     let s = c .before .before .before .args .bytes .now in
-    let h : 4096 < lineEnd s = rw (← e) (c .if1 .taken) in
+    let h : maxShortBits < lineEnd s = rw (← e) (c .if1 .taken) in
     (line-many s h, words-many s (c .before .before .before .args .words .now) h)
 
 slice-aggregate-read-text : tie.Need-slice-aggregate-read-text
@@ -31,7 +33,7 @@ returns-2 c =
     let e = b .line-end .ensures .1 in
     let s = b .before .before .args .bytes .now in
     let ws = b .before .before .args .words .now in
-    let h : lineEnd s ≤ 4096 = rw (← e) (c .before .before .before .if1 .left) in
+    let h : lineEnd s ≤ maxShortBits = rw (← e) (c .before .before .before .if1 .left) in
     let l : length (line s) ≡ lineEnd s = cc (b .line-end .ensures .0 .1, e) in
     let w : length ws ≡ 64 = omega arith in
     (rw e at (c .read-text .ensures .0) ∙ line-read s ws h l w, rw e at (c .read-text .ensures .1) ∙ words-read s ws h)

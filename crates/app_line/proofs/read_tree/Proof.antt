@@ -1,4 +1,5 @@
--- `line::read_tree` meets its contract: a refusal of the line stands, a line that is read is one tree or not. Assumes nothing.
+-- `app_line::read_tree` reads one tree into the words. A refusal of the line is propagated; otherwise the one-tree test decides.
+-- Assumes nothing.
 use lib.ListN.{length}
 use mathlib.Core.Path.{_≡_, sym, ap, _∙_}
 use Rattle.row.specs.Answer.{paperRead}

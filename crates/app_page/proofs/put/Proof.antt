@@ -1,4 +1,4 @@
--- `page::put` meets its contract: the byte is stored, or there is no room. Assumes nothing.
+-- `app_page::put` puts one byte on a page. Either the page has room and the byte is stored, or the page is full. Assumes nothing.
 use Rattle.app_page.proofs.Pages.{adds-one, adds-none}
 use borrow.Author.Needs.{needs}
 use Rattle.app_page.proofs.put.Statement.{statement}

@@ -1,4 +1,4 @@
--- `page::put_number` meets its contract: the digits are those that io writes. Assumes nothing.
+-- `app_page::put_number` puts a number on a page in decimal. The digits that `io::decimal` writes are those of `decimalOf`. Assumes nothing.
 use mathlib.Core.Path.{_∙_}
 use Rattle.app_page.proofs.Pages.{decimal-is}
 use native.Mathlib.Omega.{arith}

@@ -1,5 +1,5 @@
--- `page::put_text` meets its contract. The loop's invariant: the page keeps its length, and the text's first i bytes stand on it.
--- The measure is what is left of the text. Assumes nothing.
+-- `app_page::put_text` puts a text on a page byte by byte. Invariant of the loop: the page keeps its length, and the first i bytes of the text
+-- are on it. Measure: the bytes of the text that are left. Assumes nothing.
 use mathlib.Core.Path.{_≡_}
 use Prim.Native.Nat.{_-_, _≤_}
 use lib.ListN.{length, take}

@@ -1,4 +1,5 @@
--- `search::bwd_search` meets its contract: a shut gate is the refusal, an open one the walk's answer. Assumes nothing.
+-- `bp_search::bwd_search` tests refusals 1 to 4 and then answers what the backward walk finds.
+-- The proof has one case for a refusal and one for the walk. Assumes nothing.
 use mathlib.Core.Path.{_≡_, sym, _∙_}
 use lib.ListN.{length}
 use borrow.Author.Needs.{needs}
@@ -13,11 +14,11 @@ use Rattle.bp_spec.proofs.SearchAnswers.{when-refused, when-backward}
 use Rattle.bp_search.proofs.bwd_search.Statement.{statement}
 use Rattle.bp_search.proofs.bwd_search.Tie as tie
 
--- what the tests say
+-- The tests of the call.
 abbrev gate : tie.After-admit → Gate
 gate c = let a = c .before .before .args in nodesGate (length (a .words .now)) (a .n) (length (a .nodes .now)) (a .block)
 
--- in the arm that walks, they are passed
+-- The tests passed in the arm that walks.
 passed : (c : tie.After-enum-told) → gate (c .before .before) ≡ Pass
 passed c = sym (c .before .before .admit .ensures) ∙ c .enum-told .given .1
 

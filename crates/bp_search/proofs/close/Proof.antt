@@ -1,4 +1,4 @@
--- `search::close` meets its contract: it is the one search. Assumes nothing.
+-- `bp_search::close` is `fwd_search` with the difference -1; its contract is the one of that search. Assumes nothing.
 use borrow.Author.Needs.{needs}
 use Rattle.bp_search.proofs.close.Statement.{statement}
 use Rattle.bp_search.proofs.close.Tie as tie

@@ -1,4 +1,5 @@
--- `search::enclose` meets its contract: it is the one search, by as much as `out_of` says. Assumes nothing.
+-- `bp_search::enclose` is `bwd_search` with the difference that `out_of` returns.
+-- The proof rewrites the contract of the search by the contract of `out_of`. Assumes nothing.
 use borrow.Author.Needs.{needs}
 use mir.Syntax.{w64}
 use mir.ValLaws.{toZ-ofZ}

@@ -1,4 +1,4 @@
--- `search::open` meets its contract: it is the one search. Assumes nothing.
+-- `bp_search::open` is `bwd_search` with the difference -1; its contract is the one of that search. Assumes nothing.
 use borrow.Author.Needs.{needs}
 use Rattle.bp_search.proofs.open.Statement.{statement}
 use Rattle.bp_search.proofs.open.Tie as tie

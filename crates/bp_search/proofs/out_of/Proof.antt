@@ -1,4 +1,5 @@
--- `search::out_of` meets its contract: past the row, past the words, at an open bit, at a closing one. Assumes nothing.
+-- `bp_search::out_of` returns the difference that `enclose` searches for: -1 at an open bit of the row, otherwise -2.
+-- The proof has four cases: a position from n on, one past the words, an open bit, a close bit. Assumes nothing.
 use mathlib.Core.Path.{sym, _∙_}
 use native.Mathlib.Omega.{arith}
 use Rattle.bp_spec.proofs.SearchAnswers.{outward-past, outward-short, outward-open, outward-close}

@@ -1,4 +1,5 @@
--- `capi::bp_build` meets its contract: the words are decoded, the numbers have room in an array. Assumes nothing.
+-- `capi::bp_build` decodes the words and builds in an array that has room for the node numbers.
+-- The proof equates the decoded words and the room with those of the specification. Assumes nothing.
 use mathlib.Core.Path.{sym, ap, _∙_}
 use Prim.Native.Nat.{_*_, _≤_}
 use native.Mathlib.Omega.{arith}
@@ -17,7 +18,7 @@ use borrow.Author.Needs.{needs}
 use Rattle.capi.proofs.bp_build.Statement.{statement}
 use Rattle.capi.proofs.bp_build.Tie as tie
 
--- from where it is known how many numbers fit back to the decoded words, and from those to the entry
+-- The decoded words, seen from the room for numbers, and the entry of the function, seen from the words.
 abbrev words : tie.After-fitting → tie.After-take-words
 words c = c .before .before
 
@@ -65,7 +66,7 @@ same-length c = search needs
 
 returns : tie.Need-returns
 returns c =
-    -- where the build, the bit count and the room are answered, from the last to the first
+    -- The states of the code after the build, after the bit count and after the room, in reverse order.
     let b = c .before .before .before in
     let n = b .before .before .before in
     let f = n .before .before in

@@ -1,4 +1,4 @@
--- `capi::bp_is_ancestor` meets its contract: it is the one question, asked of the two handles in their order. Assumes nothing.
+-- `capi::bp_is_ancestor` is the request `IsAncestor` over bytes; its contract is the one of `over_bytes`. Assumes nothing.
 use mathlib.Core.Path.{_∙_}
 use mir.Syntax.{w64}
 use mir.ValLaws.{toZ-ofZ}

@@ -1,4 +1,4 @@
--- `ints::greater` meets its contract: each arm's test, by `omega`. Assumes nothing.
+-- `ints::greater` returns the greater of two signed numbers. In each branch `omega` proves the result from the test. Assumes nothing.
 use Rattle.ints.proofs.Shapes.{zsum}
 use Rattle.ints.proofs.Order.{max-ud}
 use Rattle.ints.proofs.greater.Statement.{statement}

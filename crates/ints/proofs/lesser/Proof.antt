@@ -1,4 +1,4 @@
--- `ints::lesser` meets its contract: each arm's test, by `omega`. Assumes nothing.
+-- `ints::lesser` returns the lesser of two signed numbers. In each branch `omega` proves the result from the test. Assumes nothing.
 use Rattle.ints.proofs.Shapes.{zsum}
 use Rattle.ints.proofs.Order.{min-ud}
 use Rattle.ints.proofs.lesser.Statement.{statement}

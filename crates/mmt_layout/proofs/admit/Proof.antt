@@ -1,4 +1,5 @@
--- `layout::admit` meets its contract: refusal 1, then 2 and 3, then 4. Assumes nothing.
+-- `mmt_layout::admit` makes test 1, then tests 2 and 3 by `row::admit_row`, then test 4. Each return is that of the test that decides.
+-- Assumes nothing.
 use mathlib.Core.Path.{_≡_, sym, _∙_}
 use borrow.Author.Needs.{needs}
 use Rattle.row.specs.declared.gate.Gate.the-variants.{Pass}
@@ -9,11 +10,11 @@ use Rattle.mmt_layout.proofs.Admitted.{block-fits, gate-block, gate-row
 use Rattle.mmt_layout.proofs.admit.Statement.{statement}
 use Rattle.mmt_layout.proofs.admit.Tie as tie
 
--- the entry, from where the block size is found right
+-- the start of the function, reached back from the point where test 1 has passed
 abbrev entry : tie.After-enum-told → tie.Start
 entry c = c .before .before .before
 
--- the block size is right; the row too
+-- test 1 has passed; `worded` below: tests 2 and 3 have passed too
 sized : (c : tie.After-enum-told) → blockGate (entry c .args .block) ≡ Pass
 sized c = sym (c .before .before .admit-block .ensures) ∙ c .enum-told .given .1
 

@@ -1,4 +1,5 @@
--- `layout::admit_block` meets its contract: each return by the tests that led there. Assumes nothing.
+-- `mmt_layout::admit_block` makes test 1. Each return follows from the comparisons before it, by one law of Admitted.antt.
+-- Assumes nothing.
 use native.Mathlib.Omega.{arith}
 use Rattle.mmt_layout.proofs.Admitted.{block-zero, block-large, block-odd, block-passed}
 use Rattle.mmt_layout.proofs.admit_block.Statement.{statement}

@@ -1,4 +1,4 @@
--- `layout::admit_room` meets its contract: the nodes that there is room for are counted. Assumes nothing.
+-- `mmt_layout::admit_room` makes test 4. The buffer has room for `nodes` div 3 nodes, which is compared with L + I. Assumes nothing.
 use mathlib.Core.Path.{_≡_, ap}
 use Prim.Native.Nat.{_+_}
 use native.Mathlib.Omega.{arith}
@@ -9,7 +9,7 @@ use Rattle.mmt_layout.proofs.Admitted.{count-small, room-few, room-pass
 use Rattle.mmt_layout.proofs.admit_room.Statement.{statement}
 use Rattle.mmt_layout.proofs.admit_room.Tie as tie
 
--- the nodes of the layout
+-- the block leaves and inner nodes of the layout are L + I nodes together
 all : (c : tie.After-layout-of) → c .layout-of .result .leaves + c .layout-of .result .inner ≡ count (c .before .args .n) (c .before .args .block)
 all c = ap (λ (l : Layout). l .leaves + l .inner) (c .layout-of .ensures)
 

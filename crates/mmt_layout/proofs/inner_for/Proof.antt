@@ -1,5 +1,5 @@
--- `layout::inner_for` meets its contract: with l - 1 below 2 ^ m, and no lower m, a word of ones shifted right by 64 - m is
--- 2 ^ m - 1. Assumes nothing.
+-- `mmt_layout::inner_for` returns the number of inner nodes above l block leaves. For l > 2 let m be the number of binary digits of l - 1.
+-- Then 64 ones shifted right by 64 - m are 2^m - 1, and 2^m is the smallest power of two that is at least l. Assumes nothing.
 use mathlib.Core.Path.{_≡_, ap, _∙_}
 use Prim.Native.Nat.{ℕ, zero, suc, _+_, _-_, _*_, _/_, _^_, _≤_, _<_}
 use native.Mathlib.Omega.{arith}
@@ -9,7 +9,7 @@ use Rattle.mmt_layout.proofs.Powers.{inner-one, inner-many, shifted}
 use Rattle.mmt_layout.proofs.inner_for.Statement.{statement}
 use Rattle.mmt_layout.proofs.inner_for.Tie as tie
 
--- the digits of l - 1
+-- l - 1 has m binary digits: its leading zeros are 64 - m, and 2^m is the smallest power of two above l - 1
 digits : (c : tie.Else1) → let a = c .before .args .l - 1 in (m : ℕ) × (leadingZeros 64 a + m ≡ 64) × (a < 2 ^ m) × (2 ^ m ≤ 2 * a + 1)
 digits c = leading-length 64 (c .before .args .l - 1) (omega arith)
 

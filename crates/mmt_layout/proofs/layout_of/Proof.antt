@@ -1,4 +1,4 @@
--- `layout::layout_of` meets its contract: no nodes for no bits, else the two counts. Assumes nothing.
+-- `mmt_layout::layout_of` returns L and I. With n = 0 both are 0; otherwise L is computed and `inner_for` gives I. Assumes nothing.
 use mathlib.Core.Path.{_∙_}
 use native.Mathlib.Omega.{arith}
 use borrow.Author.Needs.{needs}

@@ -1,4 +1,5 @@
--- `node::inner_summary` meets its contract: two children, one or none. Assumes nothing.
+-- `mmt_node::inner_summary` computes the entries of an inner node. Its three returns are the cases of two children, one child and none.
+-- Assumes nothing.
 use mathlib.Core.Path.{ap₂, _∙_}
 use native.Mathlib.Omega.{arith}
 use borrow.Author.Needs.{needs}

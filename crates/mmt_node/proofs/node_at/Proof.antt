@@ -1,4 +1,4 @@
--- `node::node_at` meets its contract: what is read back is what stands there. Assumes nothing.
+-- `mmt_node::node_at` reads the three entries of node k. Each read gives the i64 that the buffer has at that entry. Assumes nothing.
 use Prim.Native.Nat.{_+_, _*_}
 use lib.IntN.{pos}
 use lib.ListN.{getD}

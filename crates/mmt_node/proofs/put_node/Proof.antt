@@ -1,4 +1,4 @@
--- `node::put_node` meets its contract: the three numbers, one after the other. Assumes nothing.
+-- `mmt_node::put_node` writes the three entries of node k. The buffer after the three writes is `withNode` by definition. Assumes nothing.
 use lib.ListN.{length-set}
 use mir.Syntax.{w64}
 use mir.Val.{SFits}

@@ -1,4 +1,4 @@
--- `text::admit_text` meets its contract: each return by the tests that led there. Assumes nothing.
+-- `text::admit_text` makes the tests of refusals 2, 6 and 3, in this order. Each return follows from the tests before it. Assumes nothing.
 use mathlib.Core.Path.{sym, _∙_}
 use borrow.Author.Needs.{needs}
 use borrow.Author.Tests.{not-true, not-false}

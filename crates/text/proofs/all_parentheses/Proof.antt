@@ -1,5 +1,5 @@
--- `text::all_parentheses` meets its contract. The loop's invariant: the bytes from `i` on pass if all do. The measure is
--- what is left of the length. Assumes nothing.
+-- `text::all_parentheses` tests whether every byte is a parenthesis. Loop invariant: all bytes are parentheses exactly if those
+-- from `i` on are. Measure: the number of bytes left. Assumes nothing.
 use mathlib.Core.Path.{_≡_, sym, _∙_}
 use Prim.Native.Nat.{_-_, _≤_}
 use native.Mathlib.Omega.{arith}

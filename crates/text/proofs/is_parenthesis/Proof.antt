@@ -1,4 +1,4 @@
--- `text::is_parenthesis` meets its contract: by the test of 40. Assumes nothing.
+-- `text::is_parenthesis` tests whether a byte is 40 or 41. The proof has one case per result of the comparison with 40. Assumes nothing.
 use borrow.Author.Tests.{eq-eqb, ne-eqb}
 use Rattle.text.proofs.is_parenthesis.Statement.{statement}
 use Rattle.text.proofs.is_parenthesis.Tie as tie

@@ -1,4 +1,5 @@
--- `text::read_text` meets its contract: a shut gate is the refusal and keeps the words, an open one writes them. Assumes nothing.
+-- `text::read_text` reads a text into words. If the gate refuses, the refusal is the answer and the words are unchanged.
+-- If it passes, `write_words` writes them. Assumes nothing.
 use mathlib.Core.Path.{_≡_, sym, _∙_}
 use native.Mathlib.Omega.{arith}
 use borrow.Author.Needs.{needs}
@@ -10,11 +11,11 @@ use Rattle.text.proofs.Text.{text-fits, words-passed, words-refused}
 use Rattle.text.proofs.read_text.Statement.{statement}
 use Rattle.text.proofs.read_text.Tie as tie
 
--- what the tests say
+-- The result of the tests.
 abbrev gate : tie.After-admit-text → Gate
 gate c = let a = c .before .before .before .args in textGate (a .text .now) (length (a .words .now))
 
--- in the arm that writes, they are passed
+-- In the branch that writes, the tests have passed.
 passed : (c : tie.After-enum-told) → gate (c .before .before) ≡ Pass
 passed c = sym (c .before .before .admit-text .ensures) ∙ c .enum-told .given .1
 

@@ -1,4 +1,4 @@
--- `text::text_bit` meets its contract: each return by the tests that led there. Assumes nothing.
+-- `text::text_bit` returns bit i of a text. Each return follows from the tests before it. Assumes nothing.
 use borrow.Author.Needs.{needs}
 use Rattle.text.proofs.Text.{bit-open, bit-close, bit-past}
 use Rattle.text.proofs.text_bit.Statement.{statement}

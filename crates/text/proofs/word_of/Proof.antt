@@ -1,5 +1,5 @@
--- `text::word_of` meets its contract. The loop's invariant: `w` is packed from the word's bits from `j` on. The measure is `j`.
--- Assumes nothing.
+-- `text::word_of` packs 64 bits of the text into one word. Loop invariant: `w` is packed from the bits of the word from `j` on.
+-- Measure: `j`. Assumes nothing.
 use mathlib.Core.Path.{_≡_, refl, _∙_}
 use Prim.Native.Nat.{_+_, _*_, _-_, _≤_, _^_, _<_}
 use native.Mathlib.Nat.{add-zero}
@@ -17,7 +17,7 @@ Inv-loop text k w₀ j₀ w j = (j ≤ 64) × (w ≡ packed (textBit text) (64 *
 abbrev μ-loop : tie.MeasureT-loop
 μ-loop text k w₀ j₀ w j = j
 
--- the bits above bit j leave room for one more
+-- Inside the loop `w` has at most 63 bits, so there is room for one more.
 small : (c : tie.In-loop Inv-loop μ-loop) → c .before .loop .w < 2 ^ 63
 small c =
     let l = c .before in

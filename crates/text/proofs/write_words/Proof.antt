@@ -1,5 +1,5 @@
--- `text::write_words` meets its contract. The loop's invariant: words 0 to k - 1 are written, and those from k on are as they came.
--- The measure is the words left to write. Assumes nothing.
+-- `text::write_words` writes the first `need` words of a text into a slice. Loop invariant: words 0 to k - 1 are written, and words
+-- from k on are unchanged. Measure: the number of words left to write. Assumes nothing.
 use mathlib.Core.Path.{_≡_, refl}
 use mathlib.Core.List.{_++_}
 use Prim.Native.Nat.{_-_, _≤_}

@@ -1,4 +1,4 @@
--- `stretch::bits::bit_summary` meets its contract: a single bit's running excess is what it adds. Assumes nothing.
+-- `bits_stretch::bit_summary` returns the summary of one bit. All three values are what the bit adds to the excess. Assumes nothing.
 use mathlib.Core.Path.{sym}
 use borrow.Author.Needs.{needs}
 use Rattle.bits_stretch.proofs.Steps.{sign-back}

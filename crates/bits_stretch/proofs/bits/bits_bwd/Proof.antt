@@ -1,5 +1,5 @@
--- `stretch::bits::bits_bwd` meets its contract. The loop's invariant: what is left to do is the scan of the bits from `from` to j for q.
--- The measure is j. Assumes nothing.
+-- `bits_stretch::bits_bwd` scans bits of a word backward. Loop invariant: the scan of bits j - 1 down to `from` with the remainder q gives
+-- the result of the whole scan. Measure: j. Assumes nothing.
 use mathlib.Core.Path.{refl, ap}
 use Prim.Native.Nat.{_-_, _≤_}
 use lib.IntN.{ℤ, _+ℤ_}

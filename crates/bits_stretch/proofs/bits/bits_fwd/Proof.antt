@@ -1,5 +1,5 @@
--- `stretch::bits::bits_fwd` meets its contract. The loop's invariant: what is left to do is the scan of the bits from j to `to` for q.
--- The measure is how many bits are left. Assumes nothing.
+-- `bits_stretch::bits_fwd` scans bits of a word forward. Loop invariant: the scan of bits j to `to` - 1 with the remainder q gives the
+-- result of the whole scan. Measure: the number of bits left. Assumes nothing.
 use mathlib.Core.Path.{refl, ap}
 use Prim.Native.Nat.{_-_, _+_}
 use lib.IntN.{ℤ, _-ℤ_}

@@ -1,5 +1,5 @@
--- `stretch::bits::bits_summary` meets its contract. The loop's invariant: x has the numbers of the bits from `from` to j.
--- The measure is how many bits are left. Assumes nothing.
+-- `bits_stretch::bits_summary` returns the summary of at least one bit of a word. Loop invariant: x is the summary of the bits from
+-- `from` to j - 1. Measure: the number of bits left. Assumes nothing.
 use mathlib.Core.Path.{_≡_}
 use Prim.Native.Nat.{_+_, _-_, _≤_, _<_}
 use borrow.Author.Needs.{needs}
@@ -16,7 +16,7 @@ Inv-loop word from to x₀ j₀ x j = (x ≡ summaryOf (digit word) from (j - fr
 abbrev μ-loop : tie.MeasureT-loop
 μ-loop word from to x₀ j₀ x j = to - j
 
--- the entry, from the loop
+-- The entry of the function, seen from the head of the loop.
 abbrev entry : tie.At-loop Inv-loop μ-loop → tie.Start Inv-loop μ-loop
 entry t = t .before .before
 

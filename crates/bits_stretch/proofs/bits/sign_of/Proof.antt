@@ -1,4 +1,4 @@
--- `stretch::bits::sign_of` meets its contract: each arm's test says what the bit is. Assumes nothing.
+-- `bits_stretch::sign_of` returns what a bit adds to the excess. In each branch the test says what the bit is. Assumes nothing.
 use borrow.Author.Needs.{needs}
 use Rattle.row.proofs.Excess.{sign-close, sign-open}
 use Rattle.bits_stretch.proofs.bits.sign_of.Statement.{statement}

@@ -1,4 +1,5 @@
--- `stretch::numbers::holds` meets its contract: the second test where the first holds, and the first where it does not. Assumes nothing.
+-- `bits_stretch::holds` tests whether least <= r <= greatest. If the first comparison fails, the result is no; otherwise the second
+-- one decides. Assumes nothing.
 use mir.Syntax.{w64}
 use mir.Val.{SFits}
 use mir.ValLaws.{toZ-ofZ}
@@ -7,7 +8,7 @@ use Rattle.bits_stretch.specs.Summary.{holdsFor}
 use Rattle.bits_stretch.proofs.summary.holds.Statement.{statement}
 use Rattle.bits_stretch.proofs.summary.holds.Tie as tie
 
--- the entry, from the first test
+-- The entry of the function, seen from the first comparison.
 abbrev entry : tie.After-struct-told → tie.Start
 entry c = c .before .before
 

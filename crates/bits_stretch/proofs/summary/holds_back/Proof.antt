@@ -1,4 +1,5 @@
--- `stretch::numbers::holds_back` meets its contract: yes where nothing is left, and what `holds` says where something is. Assumes nothing.
+-- `bits_stretch::holds_back` tests whether s = 0 or least <= s <= greatest. If s is 0, the result is yes; otherwise `holds` decides.
+-- Assumes nothing.
 use mathlib.Core.Path.{ap, _≡_}
 use lib.IntN.{pos}
 use mir.Syntax.{w64}

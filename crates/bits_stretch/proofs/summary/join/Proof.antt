@@ -1,4 +1,5 @@
--- `stretch::numbers::join` meets its contract: tame numbers can be added, and each part is what the definition has. Assumes nothing.
+-- `bits_stretch::join` returns the join of two summaries. Their values are at most 2^61 in size, so the sums fit into an i64, and
+-- each of the three results is that of the definition. Assumes nothing.
 use mathlib.Core.Path.{_≡_, ap₂, _∙_}
 use Prim.Native.Nat.{_^_, _≤_, _<_}
 use lib.IntN.{ℤ, _+ℤ_}
@@ -11,28 +12,28 @@ use Rattle.ints.specs.Sides.{size}
 use Rattle.ints.specs.Order.{minZ, maxZ}
 use Rattle.ints.proofs.Shapes.{zsum}
 use Rattle.bits_stretch.specs.declared.summary.Summary.{Summary}
-use Rattle.bits_stretch.specs.Summary.{Tame, joinOf}
+use Rattle.bits_stretch.specs.Summary.{Tame, joinOf, tameBound}
 use Rattle.bits_stretch.proofs.summary.join.Statement.{statement}
 use Rattle.bits_stretch.proofs.summary.join.Tie as tie
 
--- tame numbers fit
+-- The values of a `Tame` summary fit into an i64.
 fits : (x : Summary) → Tame x → SFits w64 (x .total) × SFits w64 (x .least) × SFits w64 (x .greatest)
 fits x t = (omega zsum, omega zsum, omega zsum)
 
--- tame numbers, as the machine reads them back
-back : (a : ℤ) → size a ≤ 2305843009213693952 → toZ w64 (ofZ w64 a) ≡ a
+-- A value of this size is unchanged by being stored in an i64.
+back : (a : ℤ) → size a ≤ tameBound → toZ w64 (ofZ w64 a) ≡ a
 back a h = toZ-ofZ w64 a (omega zsum)
 
-sum-back : (a b : ℤ) → size a ≤ 2305843009213693952 → size b ≤ 2305843009213693952 → toZ w64 (ofZ w64 (toZ w64 (ofZ w64 a) +ℤ toZ w64 (ofZ w64 b))) ≡ a +ℤ b
+sum-back : (a b : ℤ) → size a ≤ tameBound → size b ≤ tameBound → toZ w64 (ofZ w64 (toZ w64 (ofZ w64 a) +ℤ toZ w64 (ofZ w64 b))) ≡ a +ℤ b
 sum-back a b h k =
     let f : SFits w64 (a +ℤ b) = omega zsum in
     rw (back a h, back b k) (toZ-ofZ w64 _ f)
 
--- what a call answers of two numbers that it reads back
+-- The result of `lesser` or `greater` for two values that were stored in an i64.
 answered : (op : ℤ → ℤ → ℤ) {z a b c d : ℤ} → mag z < 2 ^ 63 → z ≡ op a b → a ≡ c → b ≡ d → toZ w64 (ofZ w64 z) ≡ op c d
 answered op f e p q = toZ-ofZ w64 _ (record { sfits = f }) ∙ e ∙ ap₂ op p q
 
--- the entry, from the place of each sum
+-- The entry of the function, seen from each of the three sums.
 abbrev at-total : tie.After-struct-told2 → tie.Start
 at-total c = c .before .before .before .before
 

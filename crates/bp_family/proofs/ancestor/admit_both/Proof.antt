@@ -1,4 +1,5 @@
--- `family::admit_both` meets its contract: refusals 1 to 5 for a, then 5 for d. Assumes nothing.
+-- `bp_family::admit_both` tests refusals 1 to 5 for the handle a, then refusal 5 for the handle d.
+-- The proof has one case for each result of the tests for a. Assumes nothing.
 use mathlib.Core.Path.{_≡_, sym, _∙_}
 use lib.ListN.{length}
 use borrow.Author.Needs.{needs}
@@ -11,7 +12,7 @@ use Rattle.bp_spec.proofs.HandleAnswers.{passed-fine}
 use Rattle.bp_family.proofs.ancestor.admit_both.Statement.{statement}
 use Rattle.bp_family.proofs.ancestor.admit_both.Tie as tie
 
--- what the tests of a say
+-- The tests for a, and the fact that they passed in the arm that tests d.
 abbrev gate : tie.After-admit-node → Gate
 gate c =
     let a = c .before .before .args in

@@ -1,4 +1,5 @@
--- `family::is_ancestor` meets its contract: a shut gate is the refusal, an open one what `spans` answers. Assumes nothing.
+-- `bp_family::is_ancestor` tests both handles and then answers what `spans` answers.
+-- The proof has one case for a refusal and one for the answer. Assumes nothing.
 use mathlib.Core.Path.{_≡_, sym, _∙_}
 use lib.ListN.{length}
 use borrow.Author.Needs.{needs}
@@ -12,7 +13,7 @@ use Rattle.bp_family.proofs.TwoHandles.{two-refused, two-passed}
 use Rattle.bp_family.proofs.ancestor.is_ancestor.Statement.{statement}
 use Rattle.bp_family.proofs.ancestor.is_ancestor.Tie as tie
 
--- what the tests say
+-- The tests of the call, and the fact that they passed in the arm that answers.
 abbrev gate : tie.After-admit-both → Gate
 gate c =
     let a = c .before .before .args in

@@ -1,4 +1,5 @@
--- `family::parent` meets its contract: a shut gate is the refusal, an open one the walk one level back, since a handle opens. Assumes nothing.
+-- `bp_family::parent` tests the handle v and then searches backward for -1, because the bit at a handle is open.
+-- The proof has one case for a refusal and one for the walk. Assumes nothing.
 use mathlib.Core.Path.{_≡_, sym, _∙_}
 use borrow.Author.Needs.{needs}
 use Rattle.row.specs.declared.gate.Gate.{Gate}
@@ -10,7 +11,7 @@ use Rattle.bp_family.proofs.Ancestors.{parent-is}
 use Rattle.bp_family.proofs.ancestor.parent.Statement.{statement}
 use Rattle.bp_family.proofs.ancestor.parent.Tie as tie
 
--- what the tests say
+-- The tests of the call, and the fact that they passed in the arm that walks.
 abbrev gate : tie.After-admit-node → Gate
 gate c = let a = c .before .before .args in nodeGate (a .words .now) (a .n) (a .nodes .now) (a .block) (a .v)
 

@@ -1,4 +1,5 @@
--- `family::spans` meets its contract: a closes at c, at none, or the walk refuses. Assumes nothing.
+-- `bp_family::spans` searches for the close of a and tests whether d is before it.
+-- The proof has three cases: the close is found, it does not exist, the walk refuses. Assumes nothing.
 use mathlib.Core.Path.{_∙_}
 use borrow.Author.Needs.{needs}
 use Rattle.bp_spec.proofs.HandleAnswers.{said}

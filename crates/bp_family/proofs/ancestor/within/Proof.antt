@@ -1,4 +1,5 @@
--- `family::within` meets its contract: both tests hold, the second does not, the first does not. Assumes nothing.
+-- `bp_family::within` answers yes if a <= d < c, else no.
+-- The proof has three cases: both comparisons hold, the second one fails, the first one fails. Assumes nothing.
 use mathlib.Core.Logic.{⊎-elim}
 use Rattle.bp_family.proofs.Ancestors.{within-yes, within-past, within-before}
 use Rattle.bp_family.proofs.ancestor.within.Statement.{statement}

@@ -1,4 +1,5 @@
--- `sibling::last_of` meets its contract: v has no child; it closes at c, at none, or the walk refuses. Assumes nothing.
+-- `bp_family::last_of` answers the last child of v by two searches, or nothing if the bit after v is not open.
+-- The proof has four cases: no child, the close of v is found, it does not exist, the walk refuses. Assumes nothing.
 use mathlib.Core.Path.{_≡_, sym, _∙_}
 use mathlib.Core.Bool.{true}
 use Prim.Native.Nat.{_+_, _<_}
@@ -16,11 +17,11 @@ use Rattle.bp_family.proofs.Siblings.{last-bare, last-at, last-nothing,
 use Rattle.bp_family.proofs.sibling.last_of.Statement.{statement}
 use Rattle.bp_family.proofs.sibling.last_of.Tie as tie
 
--- from where v has a child back to the entry
+-- The entry of the function, seen from the branch where v has a child.
 abbrev entry : tie.Else1 → tie.Start
 entry c = c .before .before .before
 
--- from the position where v closes back to the walk that found it
+-- The forward walk, seen from the arm that uses its answer.
 abbrev walked : tie.After-known-told → tie.After-walk-fwd
 walked c = c .before .before .before
 
@@ -33,7 +34,7 @@ is-open-requires c κs = search needs
 returns : tie.Need-returns
 returns c = last-bare _ _ _ _ (sym (c .before .is-open .ensures) ∙ not-true _ (c .if1 .taken))
 
--- v has a child
+-- In this branch v has a child.
 child : (c : tie.Else1) → (let a = entry c .args in opens (a .words .now) (a .n) (a .v + 1) ≡ true)
 child c = sym (c .before .is-open .ensures) ∙ not-false _ (c .if1 .left)
 
@@ -43,7 +44,7 @@ walk-fwd-requires c κs = search needs
 enum-known-c : tie.Need-enum-known-c
 enum-known-c c = search needs
 
--- v closes at a position past it
+-- The close of v is at a position after v.
 closes : (c : tie.After-known-told) → (let a = entry (walked c .before) .args in
     walk forward (a .words .now) (a .n) (a .nodes .now) (a .block) (a .v) (negsuc 0) .answer ≡ at (c .before .c .given .0 .0))
 closes c = said (walked c .walk-fwd .ensures) (c .before .c .given .1)

@@ -1,4 +1,5 @@
--- `sibling::next_of` meets its contract: v closes at c, at none, or the walk refuses. Assumes nothing.
+-- `bp_family::next_of` searches for the close of v and answers the position after it if that bit is open.
+-- The proof has three cases: the close is found, it does not exist, the walk refuses. Assumes nothing.
 use mathlib.Core.Path.{_≡_, _∙_}
 use Prim.Native.Nat.{_<_}
 use native.Mathlib.Omega.{arith}
@@ -13,7 +14,7 @@ use Rattle.bp_family.proofs.Siblings.{next-at, next-nothing, next-refus
 use Rattle.bp_family.proofs.sibling.next_of.Statement.{statement}
 use Rattle.bp_family.proofs.sibling.next_of.Tie as tie
 
--- from the position where v closes back to the walk that found it, and from that to the entry
+-- The forward walk, seen from the arm that uses its answer, and the entry of the function, seen from the walk.
 abbrev walked : tie.After-known-told → tie.After-walk-fwd
 walked c = c .before .before .before
 
@@ -26,7 +27,7 @@ walk-fwd-requires c κs = search needs
 enum-known-c : tie.Need-enum-known-c
 enum-known-c c = search needs
 
--- v closes at a position of the row
+-- The close of v is a position below n.
 closes : (c : tie.After-known-told) → (let a = entry (walked c) .args in
     walk forward (a .words .now) (a .n) (a .nodes .now) (a .block) (a .v) (negsuc 0) .answer ≡ at (c .before .c .given .0 .0))
 closes c = said (walked c .walk-fwd .ensures) (c .before .c .given .1)

@@ -1,4 +1,5 @@
--- `sibling::next_sibling` meets its contract: a shut gate is the refusal, an open one what `next_of` answers. Assumes nothing.
+-- `bp_family::next_sibling` tests the handle v and then answers what `next_of` answers.
+-- The proof has one case for a refusal and one for the answer. Assumes nothing.
 use mathlib.Core.Path.{_≡_, sym, _∙_}
 use borrow.Author.Needs.{needs}
 use Rattle.row.specs.declared.gate.Gate.{Gate}
@@ -8,7 +9,7 @@ use Rattle.bp_spec.specs.SiblingCalls.{nextSibling}
 use Rattle.bp_family.proofs.sibling.next_sibling.Statement.{statement}
 use Rattle.bp_family.proofs.sibling.next_sibling.Tie as tie
 
--- what the tests say
+-- The tests of the call, and the fact that they passed in the arm that answers.
 abbrev gate : tie.After-admit-node → Gate
 gate c = let a = c .before .before .args in nodeGate (a .words .now) (a .n) (a .nodes .now) (a .block) (a .v)
 

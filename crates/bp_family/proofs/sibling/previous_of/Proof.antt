@@ -1,4 +1,5 @@
--- `sibling::previous_of` meets its contract: no bit before v, one that opens, one that closes. Assumes nothing.
+-- `bp_family::previous_of` searches for the open bit of the close bit before v, or answers nothing if there is no such close bit.
+-- The proof has three cases: v is 0, the bit before v is open, the bit before v is a close bit. Assumes nothing.
 use mathlib.Core.Path.{sym, _∙_}
 use native.Mathlib.Omega.{arith}
 use borrow.Author.Needs.{needs}

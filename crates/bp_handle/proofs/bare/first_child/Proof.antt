@@ -1,4 +1,5 @@
--- `handle::first_child` meets its contract: a shut gate is the refusal, an open one the next bit, if it opens. Assumes nothing.
+-- `bp_handle::first_child` tests the handle v and answers v + 1 if that is an open bit of the row.
+-- The proof has one case for a refusal and one for the answer of `handle_after`. Assumes nothing.
 use mathlib.Core.Path.{_≡_, sym, _∙_}
 use borrow.Author.Needs.{needs}
 use Rattle.row.specs.declared.gate.Gate.{Gate}
@@ -8,7 +9,7 @@ use Rattle.bp_spec.proofs.Gates.{bare, bare-facts, bare-refused, bare-passed}
 use Rattle.bp_handle.proofs.bare.first_child.Statement.{statement}
 use Rattle.bp_handle.proofs.bare.first_child.Tie as tie
 
--- what the tests say
+-- The tests of the call, and the fact that they passed in the arm that answers.
 abbrev gate : tie.After-admit-handle → Gate
 gate c = let a = c .before .before .args in bare (a .words .now) (a .n) (a .v)
 

@@ -1,4 +1,5 @@
--- `handle::handle_after` meets its contract: the next bit opens, or it does not. Assumes nothing.
+-- `bp_handle::handle_after` answers c + 1 if that is an open bit of the row, and otherwise nothing.
+-- The proof has one case per branch. Assumes nothing.
 use mathlib.Core.Path.{sym, _∙_}
 use borrow.Author.Needs.{needs}
 use Rattle.bp_handle.proofs.RowAnswers.{handle-yes, handle-no}

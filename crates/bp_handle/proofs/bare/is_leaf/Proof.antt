@@ -1,4 +1,5 @@
--- `handle::is_leaf` meets its contract: a shut gate is the refusal, an open one whether the next bit closes. Assumes nothing.
+-- `bp_handle::is_leaf` tests the handle v and answers whether the next bit is a close bit of the row.
+-- The proof has one case for a refusal and one for the answer of `leaf_at`. Assumes nothing.
 use mathlib.Core.Path.{_≡_, sym, _∙_}
 use borrow.Author.Needs.{needs}
 use Rattle.row.specs.declared.gate.Gate.{Gate}
@@ -8,7 +9,7 @@ use Rattle.bp_spec.proofs.Gates.{bare, bare-facts, bare-refused, bare-passed}
 use Rattle.bp_handle.proofs.bare.is_leaf.Statement.{statement}
 use Rattle.bp_handle.proofs.bare.is_leaf.Tie as tie
 
--- what the tests say
+-- The tests of the call, and the fact that they passed in the arm that answers.
 abbrev gate : tie.After-admit-handle → Gate
 gate c = let a = c .before .before .args in bare (a .words .now) (a .n) (a .v)
 

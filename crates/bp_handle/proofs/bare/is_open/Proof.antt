@@ -1,4 +1,5 @@
--- `handle::is_open` meets its contract: past the row, and in it. Assumes nothing.
+-- `bp_handle::is_open` tests whether position i is an open bit of the row.
+-- The proof has one case for a position from n on and one for a position below n. Assumes nothing.
 use mathlib.Core.Path.{_∙_}
 use native.Mathlib.Omega.{arith}
 use borrow.Author.Needs.{needs}

@@ -1,4 +1,5 @@
--- `handle::leaf_at` meets its contract: no next bit, one that opens, one that closes. Assumes nothing.
+-- `bp_handle::leaf_at` answers whether the bit after v is a close bit of the row.
+-- The proof has three cases: no next bit, an open bit, a close bit. Assumes nothing.
 use mathlib.Core.Path.{sym, _∙_}
 use native.Mathlib.Omega.{arith}
 use borrow.Author.Needs.{needs}

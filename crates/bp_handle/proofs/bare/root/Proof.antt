@@ -1,4 +1,5 @@
--- `handle::root` meets its contract: a shut gate is the refusal, an open one 0, or nothing on an empty row. Assumes nothing.
+-- `bp_handle::root` answers 0, or nothing on an empty row, after refusals 2 and 3.
+-- The proof has one case for a refusal and one for each answer. Assumes nothing.
 use mathlib.Core.Path.{_≡_, sym, _∙_}
 use lib.ListN.{length}
 use borrow.Author.Needs.{needs}
@@ -8,7 +9,7 @@ use Rattle.bp_handle.proofs.RowAnswers.{root-some, root-none}
 use Rattle.bp_handle.proofs.bare.root.Statement.{statement}
 use Rattle.bp_handle.proofs.bare.root.Tie as tie
 
--- refusals 2 and 3 are passed
+-- The tests for refusals 2 and 3 passed in the arm that answers.
 passed : (c : tie.After-enum-told) → let a = c .before .before .before .before .args in rowGate (length (a .words .now)) (a .n) ≡ Pass
 passed c = sym (c .before .before .admit-row .ensures) ∙ c .enum-told .given .1
 

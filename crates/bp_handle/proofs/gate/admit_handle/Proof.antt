@@ -1,4 +1,5 @@
--- `handle::admit_handle` meets its contract: refusals 2 and 3, then 5. Assumes nothing.
+-- `bp_handle::admit_handle` tests refusals 2 and 3, then refusal 5.
+-- The proof has one case for each result of the first two tests. Assumes nothing.
 use mathlib.Core.Path.{_≡_, sym, _∙_}
 use lib.ListN.{length}
 use borrow.Author.Needs.{needs}
@@ -8,7 +9,7 @@ use Rattle.row.proofs.Gates.{row-fits}
 use Rattle.bp_handle.proofs.gate.admit_handle.Statement.{statement}
 use Rattle.bp_handle.proofs.gate.admit_handle.Tie as tie
 
--- refusals 2 and 3 are passed
+-- The tests for refusals 2 and 3 passed in the arm that tests the handle.
 passed : (c : tie.After-enum-told) → let a = c .before .before .before .before .args in rowGate (length (a .words .now)) (a .n) ≡ Pass
 passed c = sym (c .before .before .admit-row .ensures) ∙ c .enum-told .given .1
 

@@ -1,4 +1,5 @@
--- `handle::admit_node` meets its contract: refusals 1 to 4, then 5. Assumes nothing.
+-- `bp_handle::admit_node` tests refusals 1 to 4, then refusal 5.
+-- The proof has one case for each result of the first four tests. Assumes nothing.
 use mathlib.Core.Path.{_≡_, sym, _∙_}
 use lib.ListN.{length}
 use borrow.Author.Needs.{needs}
@@ -8,7 +9,7 @@ use Rattle.mmt_layout.proofs.Admitted.{gate-fine}
 use Rattle.bp_handle.proofs.gate.admit_node.Statement.{statement}
 use Rattle.bp_handle.proofs.gate.admit_node.Tie as tie
 
--- refusals 1 to 4 are passed
+-- The tests for refusals 1 to 4 passed in the arm that tests the handle.
 passed : (c : tie.After-enum-told) → let a = c .before .before .before .before .args in nodesGate (length (a .words .now)) (a .n) (length (a .nodes .now)) (a .block) ≡ Pass
 passed c = sym (c .before .before .admit .ensures) ∙ c .enum-told .given .1
 

@@ -1,4 +1,5 @@
--- `ends::leftmost_at` meets its contract: no bits, the first bit, a level too far, or the search. Assumes nothing.
+-- `bp_level::leftmost_at` answers the first outline node of level k.
+-- The proof has four cases: no bits, level 0, a level above n, the walk. Assumes nothing.
 use mathlib.Core.Path.{_∙_}
 use Prim.Native.Nat.{_≤_}
 use native.Mathlib.Omega.{arith}
@@ -8,11 +9,11 @@ use Rattle.bp_level.proofs.LevelEnds.{leftmost-none, leftmost-root, lef
 use Rattle.bp_level.proofs.ends.leftmost_at.Statement.{statement}
 use Rattle.bp_level.proofs.ends.leftmost_at.Tie as tie
 
--- from where there are bits and k is not 0 back to the entry
+-- The entry of the function, seen from the branch where the row has bits and k is not 0.
 abbrev entry : tie.Else2 → tie.Start
 entry c = c .before .before .before
 
--- where it searches, k is not too far
+-- In the branch that walks, k is at most n.
 near : (c : tie.Else3) → (let a = entry (c .before .before) .args in a .k ≤ a .n)
 near c = told-near (c .before .too-far .ensures) (c .if3 .left)
 

@@ -1,4 +1,5 @@
--- `ends::level_rightmost` meets its contract: a shut gate is the refusal, an open one the walk's answer. Assumes nothing.
+-- `bp_level::level_rightmost` tests refusals 1 to 4 and then answers what `rightmost_at` answers.
+-- The proof has one case for a refusal and one for the answer. Assumes nothing.
 use mathlib.Core.Path.{_≡_, sym, _∙_}
 use lib.ListN.{length}
 use borrow.Author.Needs.{needs}
@@ -9,7 +10,7 @@ use Rattle.bp_level.proofs.LevelEnds.{rightmost-refused, rightmost-pass
 use Rattle.bp_level.proofs.ends.level_rightmost.Statement.{statement}
 use Rattle.bp_level.proofs.ends.level_rightmost.Tie as tie
 
--- in the arm that walks, refusals 1 to 4 are passed
+-- The tests for refusals 1 to 4 passed in the arm that answers.
 passed : (c : tie.After-enum-told) → (let a = c .before .before .before .before .args in
     nodesGate (length (a .words .now)) (a .n) (length (a .nodes .now)) (a .block) ≡ Pass)
 passed c = sym (c .before .before .admit .ensures) ∙ c .enum-told .given .1

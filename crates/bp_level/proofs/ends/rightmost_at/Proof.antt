@@ -1,4 +1,5 @@
--- `ends::rightmost_at` meets its contract: a level too far, or what the start passes on. Assumes nothing.
+-- `bp_level::rightmost_at` answers nothing for a level above n; otherwise it searches from the start that the root gives.
+-- The proof has four cases: the level is too far, or the start is a position, nothing or a refusal. Assumes nothing.
 use mathlib.Core.Path.{_∙_}
 use Prim.Native.Nat.{_≤_}
 use native.Mathlib.Omega.{arith}
@@ -9,11 +10,11 @@ use Rattle.bp_spec.proofs.RightmostStart.{root-there}
 use Rattle.bp_level.proofs.ends.rightmost_at.Statement.{statement}
 use Rattle.bp_level.proofs.ends.rightmost_at.Tie as tie
 
--- from where it goes on back to the entry
+-- The entry of the function, seen from the branch where k is at most n.
 abbrev entry : tie.Else1 → tie.Start
 entry c = c .before .before .before
 
--- where it goes on, k is not too far
+-- In this branch k is at most n.
 near : (c : tie.Else1) → (let a = entry c .args in a .k ≤ a .n)
 near c = told-near (c .before .too-far .ensures) (c .if1 .left)
 

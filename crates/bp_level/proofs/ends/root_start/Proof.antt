@@ -1,4 +1,5 @@
--- `ends::root_start` meets its contract: no bits, a root out of range, or the start by its total. Assumes nothing.
+-- `bp_level::root_start` examines the root and answers n + total - 1 if that is a position of the row.
+-- The proof has three cases: no bits, a root in range, a root out of range. Assumes nothing.
 use mathlib.Core.Path.{_∙_}
 use native.Mathlib.Omega.{arith}
 use borrow.Author.Needs.{needs}
@@ -10,7 +11,7 @@ use Rattle.bp_spec.proofs.RightmostStart.{start-none, start-misfit, start-root}
 use Rattle.bp_level.proofs.ends.root_start.Statement.{statement}
 use Rattle.bp_level.proofs.ends.root_start.Tie as tie
 
--- the root that is in range
+-- The root of the min-max tree, and the fact that its entries are in range and equal the ones read.
 abbrev root : tie.After-x → Summary
 root c = nodeAt (c .before .before .before .before .args .nodes .now) 0
 

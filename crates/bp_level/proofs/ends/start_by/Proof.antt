@@ -1,4 +1,5 @@
--- `ends::start_by` meets its contract: below 0, in the row, or past it. Assumes nothing.
+-- `bp_level::start_by` answers n + total - 1 if that is a position of the row, otherwise nothing.
+-- The proof has three cases: the number is below 0, below n, or at least n. Assumes nothing.
 use borrow.Author.Needs.{needs}
 use Rattle.bp_spec.proofs.RightmostStart.{sum-fits, start-fits, row-below, row-cast, row-in, row-past}
 use Rattle.bp_level.proofs.ends.start_by.Statement.{statement}

@@ -1,4 +1,5 @@
--- `level::ancestor_at` meets its contract: v itself, a level too far, or the search. Assumes nothing.
+-- `bp_level::ancestor_at` answers the ancestor k levels above v.
+-- The proof has three cases: k is 0, k is above n, the walk. Assumes nothing.
 use mathlib.Core.Path.{_∙_}
 use Prim.Native.Nat.{_≤_}
 use borrow.Author.Needs.{needs}
@@ -6,11 +7,11 @@ use Rattle.bp_level.proofs.NodeLevels.{told-far, told-near, level-fits,
 use Rattle.bp_level.proofs.from_node.ancestor_at.Statement.{statement}
 use Rattle.bp_level.proofs.from_node.ancestor_at.Tie as tie
 
--- from where it searches back to the entry
+-- The entry of the function, seen from the branch that walks.
 abbrev entry : tie.Else2 → tie.Start
 entry c = c .before .before .before .before
 
--- where it searches, k is not too far
+-- In the branch that walks, k is at most n.
 near : (c : tie.Else2) → (let a = entry c .args in a .k ≤ a .n)
 near c = told-near (c .before .too-far .ensures) (c .if2 .left)
 

@@ -1,4 +1,5 @@
--- `level::level_ancestor` meets its contract: a shut gate is the refusal, an open one the walk's answer. Assumes nothing.
+-- `bp_level::level_ancestor` tests the handle v and then answers what `ancestor_at` answers.
+-- The proof has one case for a refusal and one for the answer. Assumes nothing.
 use mathlib.Core.Path.{_≡_, sym, _∙_}
 use borrow.Author.Needs.{needs}
 use Rattle.row.specs.declared.gate.Gate.the-variants.{Pass}
@@ -7,11 +8,11 @@ use Rattle.bp_spec.specs.LevelCalls.{levelAncestor}
 use Rattle.bp_level.proofs.from_node.level_ancestor.Statement.{statement}
 use Rattle.bp_level.proofs.from_node.level_ancestor.Tie as tie
 
--- from the gate's answer back to the entry
+-- The entry of the function, seen from the tests.
 abbrev entry : tie.After-admit-node → tie.Start
 entry c = c .before .before
 
--- in the arm that walks, refusals 1 to 5 are passed
+-- The tests for refusals 1 to 5 passed in the arm that answers.
 passed : (c : tie.After-enum-told) → (let a = entry (c .before .before) .args in
     nodeGate (a .words .now) (a .n) (a .nodes .now) (a .block) (a .v) ≡ Pass)
 passed c = sym (c .before .before .admit-node .ensures) ∙ c .enum-told .given .1

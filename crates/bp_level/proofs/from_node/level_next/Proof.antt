@@ -1,4 +1,5 @@
--- `level::level_next` meets its contract: a shut gate is the refusal, an open one the walk's answer. Assumes nothing.
+-- `bp_level::level_next` tests the handle v and then answers what `next_of` answers.
+-- The proof has one case for a refusal and one for the answer. Assumes nothing.
 use mathlib.Core.Path.{_≡_, sym, _∙_}
 use borrow.Author.Needs.{needs}
 use Rattle.row.specs.declared.gate.Gate.the-variants.{Pass}
@@ -7,7 +8,7 @@ use Rattle.bp_spec.specs.LevelCalls.{levelNext}
 use Rattle.bp_level.proofs.from_node.level_next.Statement.{statement}
 use Rattle.bp_level.proofs.from_node.level_next.Tie as tie
 
--- in the arm that walks, refusals 1 to 5 are passed
+-- The tests for refusals 1 to 5 passed in the arm that answers.
 passed : (c : tie.After-enum-told) → (let a = c .before .before .before .before .args in
     nodeGate (a .words .now) (a .n) (a .nodes .now) (a .block) (a .v) ≡ Pass)
 passed c = sym (c .before .before .admit-node .ensures) ∙ c .enum-told .given .1

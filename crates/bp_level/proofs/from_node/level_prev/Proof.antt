@@ -1,4 +1,5 @@
--- `level::level_prev` meets its contract: a shut gate is the refusal, an open one the walk's answer. Assumes nothing.
+-- `bp_level::level_prev` tests the handle v and then answers what `open_before` answers for the difference 1.
+-- The proof has one case for a refusal and one for the answer. Assumes nothing.
 use mathlib.Core.Path.{_≡_, sym, _∙_}
 use borrow.Author.Needs.{needs}
 use Rattle.row.specs.declared.gate.Gate.the-variants.{Pass}
@@ -8,7 +9,7 @@ use Rattle.bp_level.proofs.NodeLevels.{prev-is}
 use Rattle.bp_level.proofs.from_node.level_prev.Statement.{statement}
 use Rattle.bp_level.proofs.from_node.level_prev.Tie as tie
 
--- in the arm that walks, refusals 1 to 5 are passed
+-- The tests for refusals 1 to 5 passed in the arm that answers.
 passed : (c : tie.After-enum-told) → (let a = c .before .before .before .before .args in
     nodeGate (a .words .now) (a .n) (a .nodes .now) (a .block) (a .v) ≡ Pass)
 passed c = sym (c .before .before .admit-node .ensures) ∙ c .enum-told .given .1

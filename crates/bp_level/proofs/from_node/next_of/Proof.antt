@@ -1,4 +1,5 @@
--- `level::next_of` meets its contract: what the first search answers is passed on. Assumes nothing.
+-- `bp_level::next_of` searches for the close of v and from there for the next outline node on the level.
+-- The proof has three cases, by the answer of the first search: a position, nothing, a refusal. Assumes nothing.
 use mathlib.Core.Path.{sym, _∙_}
 use borrow.Author.Needs.{needs}
 use Rattle.bp_level.proofs.NodeLevels.{on-at, on-nothing, on-refused, next-is}

@@ -1,4 +1,5 @@
--- `level::open_before` meets its contract: what the first search answers is passed on. Assumes nothing.
+-- `bp_level::open_before` searches backward from i for the difference r and answers the open bit of the position found.
+-- The proof has three cases, by the answer of the first search: a position, nothing, a refusal. Assumes nothing.
 use mathlib.Core.Path.{_≡_}
 use borrow.Author.Needs.{needs}
 use mir.Syntax.{w64}
@@ -10,7 +11,7 @@ use Rattle.bp_level.proofs.NodeLevels.{on-at, on-nothing, on-refused}
 use Rattle.bp_level.proofs.from_node.open_before.Statement.{statement}
 use Rattle.bp_level.proofs.from_node.open_before.Tie as tie
 
--- the first search
+-- The first search answers what the walk finds.
 first : (c : tie.After-walk-bwd) → (let a = c .before .before .args in
     paperFound (c .walk-bwd .result) ≡ walk backward (a .words .now) (a .n) (a .nodes .now) (a .block) (a .i) (a .r) .answer)
 first c = rw (toZ-ofZ w64 _ (c .before .before .fits .r)) at (c .walk-bwd .ensures)

@@ -1,4 +1,5 @@
--- `asking::over_bytes` meets its contract: what it decodes is what is asked of. Assumes nothing.
+-- `c_dispatch::over_bytes` decodes the row and the node buffer and makes the call that the request names.
+-- The proof equates the decoded slices with the decoded values of the specification. Assumes nothing.
 use mathlib.Core.Path.{ap, _∙_}
 use Prim.Native.Nat.{_*_}
 use mir.Syntax.{w64}
@@ -11,7 +12,7 @@ use borrow.Author.Needs.{needs}
 use Rattle.c_dispatch.proofs.bytes.over_bytes.Statement.{statement}
 use Rattle.c_dispatch.proofs.bytes.over_bytes.Tie as tie
 
--- from the decoded numbers back to the decoded words, and from those to the entry
+-- The decoded words, seen from the decoded numbers, and the entry of the function, seen from the decoded words.
 abbrev words : tie.After-take-numbers → tie.After-take-words
 words c = c .before .before .before
 

@@ -1,4 +1,4 @@
--- `asking::over_row` meets its contract: no bytes hold no numbers. Assumes nothing.
+-- `c_dispatch::over_row` is `over_bytes` with an empty node buffer. The proof: no bytes decode to no numbers. Assumes nothing.
 use borrow.Author.Needs.{needs}
 use Rattle.wire.specs.Bytes.{tabulate}
 use Rattle.c_dispatch.proofs.bytes.over_row.Statement.{statement}

@@ -1,4 +1,5 @@
--- `asking::read_text` meets its contract: past the limit it reads into an array, as much as fits. Assumes nothing.
+-- `c_dispatch::read_text` refuses a text of more than 4,096 bytes; otherwise it reads the text into an array and writes the words as bytes.
+-- The proof has one case for the limit and one for `read_through`. Assumes nothing.
 use mathlib.Core.Path.{sym, ap, _∙_}
 use Prim.Native.Nat.{_*_, _≤_}
 use native.Mathlib.Omega.{arith}
@@ -16,7 +17,7 @@ use borrow.Author.Needs.{needs}
 use Rattle.c_dispatch.proofs.reader.read_text.Statement.{statement}
 use Rattle.c_dispatch.proofs.reader.read_text.Tie as tie
 
--- from where it is known how many words fit back to the entry
+-- The entry of the function, seen from the number of words that fit.
 abbrev entry : tie.After-fitting → tie.Start
 entry c = c .before .before .before .before
 

@@ -1,4 +1,5 @@
--- `asking::read_through` meets its contract: a refusal writes nothing, a text that is read writes its words. Assumes nothing.
+-- `c_dispatch::read_through` reads a text into words and writes the needed words as bytes; a refusal leaves the bytes unchanged.
+-- The proof has one case for a refusal and one for success. Assumes nothing.
 use mathlib.Core.Path.{_≡_, sym, ap, _∙_}
 use Prim.Native.Nat.{_≤_}
 use native.Mathlib.Omega.{arith}
@@ -6,6 +7,7 @@ use lib.ListN.{length}
 use lib.Seq.{length-take-le}
 use mir.Syntax.{w64}
 use mir.ValLaws.{toZ-ofZ, toZ-pos}
+use Rattle.row.specs.Limits.{maxBits}
 use Rattle.row.specs.declared.gate.Gate.the-variants.{Pass}
 use Rattle.row.specs.Answer.{paperRead}
 use Rattle.row.specs.Gates.{wordsFor}
@@ -17,24 +19,24 @@ use borrow.Author.Needs.{needs}
 use Rattle.c_dispatch.proofs.reader.read_through.Statement.{statement}
 use Rattle.c_dispatch.proofs.reader.read_through.Tie as tie
 
--- from the reader's answer back to the entry
+-- The entry of the function, seen from the answer of the reader.
 abbrev entry : tie.After-read-text → tie.Start
 entry c = let asked = c .before in asked .before .before .before .before
 
--- from where that answer is found to be no refusal back to it
+-- The answer of the reader, seen from the arm where it is no refusal.
 abbrev read : tie.At-match-keys2 → tie.After-read-text
 read c = c .before .before .before
 
--- where bits are counted the tests are passed, and the count is the text's length
+-- In the arm with a bit count the tests passed, and the count is the length of the text.
 passed : (c : tie.After-n)
     → let a = entry (read (c .before)) .args in
     (textGate (a .text .now) (length (a .words .now)) ≡ Pass) × (c .n .given .0 .0 ≡ length (a .text .now))
 passed c = count-passed _ _ _ (sym (ap paperRead (c .n .given .1)) ∙ read (c .before) .read-text .ensures .0)
 
--- and there are as many words as are written
+-- In this arm the slice has at least as many words as are written.
 fits : (c : tie.After-n)
     → let a = entry (read (c .before)) .args in
-    (c .n .given .0 .0 ≤ 4294967296) × (wordsFor (c .n .given .0 .0) ≤ length (a .words .now))
+    (c .n .given .0 .0 ≤ maxBits) × (wordsFor (c .n .given .0 .0) ≤ length (a .words .now))
 fits c = let p = passed c in rw (p .1) (text-fits _ _ (p .0))
 
 enough : (c : tie.After-words-for) → let n = c .before .before in c .words-for .result ≤ length (read (n .before) .read-text .last .1 .0)

@@ -1,4 +1,5 @@
--- `c_dispatch::answer` meets its contract: each arm makes the one call or test, and its answer crosses. Assumes nothing.
+-- `c_dispatch::answer` makes the call or the test that the request names and returns its answer as one i64.
+-- The proof has one case per arm. Assumes nothing.
 use mathlib.Core.Path.{refl}
 use borrow.Author.Needs.{needs}
 use Rattle.c_dispatch.specs.Requests.{requested}

@@ -1,4 +1,5 @@
--- `asking::ask` meets its contract: in each arm it is the one call, and its answer crosses. Assumes nothing.
+-- `c_dispatch::ask` makes the call that the question names and returns its answer as one i64.
+-- The proof has one case per arm; each cites the contract of the call and the bound on its answer. Assumes nothing.
 use mathlib.Core.Path.{_≡_}
 use mathlib.Core.List.{[]}
 use borrow.Author.Needs.{needs}

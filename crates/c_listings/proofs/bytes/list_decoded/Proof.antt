@@ -1,4 +1,5 @@
--- `lists::list_decoded` meets its contract: the array has room for every answer there can be. Assumes nothing.
+-- `c_listings::list_decoded` lists into an array and writes the answers as bytes.
+-- The proof: the array has room for every answer of a row of 4,096 bits. Assumes nothing.
 use mathlib.Core.Path.{sym, ap, _∙_}
 use Prim.Native.Nat.{_≤_}
 use native.Mathlib.Omega.{arith}
@@ -6,13 +7,14 @@ use borrow.Author.Needs.{needs}
 use lib.Seq.{length-take-le}
 use mir.Syntax.{w64}
 use mir.ValLaws.{toZ-ofZ}
+use Rattle.wire.specs.Limit.{answerRoom}
 use Rattle.wire.specs.Answer.{wireOf}
 use Rattle.c_listings.proofs.Listed.{count-cut, bytes-cut}
 use Rattle.c_listings.proofs.bytes.list_decoded.Statement.{statement}
 use Rattle.c_listings.proofs.bytes.list_decoded.Tie as tie
 
--- the answers that fit into out fit into the array
-fits : (c : tie.After-fitting) → c .fitting .result ≤ 4098
+-- The answers that fit into `out` fit into the array.
+fits : (c : tie.After-fitting) → c .fitting .result ≤ answerRoom
 fits c = omega (arith, c .fitting .ensures)
 
 fitting-requires : tie.Need-fitting-requires

@@ -1,12 +1,14 @@
--- `lists::put_listing` meets its contract: a refusal writes nothing, a listing that is made writes its answers. Assumes nothing.
+-- `c_listings::put_listing` writes the answers of a listing as bytes; a refused constructor leaves the bytes unchanged.
+-- The proof has one case for a refusal and one for success. Assumes nothing.
 use mathlib.Core.Path.{_≡_, sym, ap, _∙_}
-use Prim.Native.Nat.{_≤_, _<_}
+use Prim.Native.Nat.{_+_, _≤_, _<_}
 use native.Mathlib.Omega.{arith}
 use borrow.Author.Needs.{needs}
 use lib.ListN.{length, take}
 use lib.Seq.{length-take-le}
 use mir.Syntax.{w64}
 use mir.ValLaws.{toZ-ofZ, toZ-pos}
+use Rattle.row.specs.Limits.{maxBits}
 use Rattle.row.specs.Answer.{at}
 use Rattle.wire.specs.Answer.{wireOf}
 use Rattle.wire.specs.Bytes.{numbersOver}
@@ -16,21 +18,21 @@ use Rattle.c_listings.proofs.Listed.{count-low, bytes-refused, bytes-pa
 use Rattle.c_listings.proofs.bytes.put_listing.Statement.{statement}
 use Rattle.c_listings.proofs.bytes.put_listing.Tie as tie
 
--- from the count back to the listing that it is of, and from that to the entry
+-- The listing, seen from its count, and the entry of the function, seen from the listing.
 abbrev listed : tie.After-c → tie.After-list
 listed c = c .before .before .before
 
 abbrev entry : tie.After-list → tie.Start
 entry c = c .before .before .before .before
 
--- what is counted
+-- The count is the answer of `list`, and it is at most 2^32 + 2.
 counted : (c : tie.After-c) → at (c .c .given .0 .0) ≡ paperListed (listed c .list .result)
 counted c = sym (ap paperListed (c .c .given .1))
 
-low : (c : tie.After-c) → c .c .given .0 .0 < 4294967299
+low : (c : tie.After-c) → c .c .given .0 .0 < (maxBits + 3)
 low c = count-low _ _ _ _ _ _ _ _ (counted c ∙ listed c .list .ensures .0)
 
--- there are as many numbers as are counted, and what they leave as bytes
+-- The array has as many numbers as the count says, and these are the bytes after they are written.
 written : (c : tie.After-c) →
     let a = entry (listed c) .args in
     let ys = listed c .list .last .1 .1 .1 .1 .1 .1 .0 in

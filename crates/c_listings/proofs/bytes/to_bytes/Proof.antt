@@ -1,4 +1,5 @@
--- `lists::to_bytes` meets its contract: what it decodes is listed. Assumes nothing.
+-- `c_listings::to_bytes` decodes the row and the node buffer and lists over the decoded values.
+-- The proof equates the decoded slices with the decoded values of the specification. Assumes nothing.
 use mathlib.Core.Path.{refl, ap, _∙_}
 use Prim.Native.Nat.{_*_, _/_}
 use borrow.Author.Needs.{needs}
@@ -13,7 +14,7 @@ use Rattle.c_listings.specs.Listings.{listedBytes}
 use Rattle.c_listings.proofs.bytes.to_bytes.Statement.{statement}
 use Rattle.c_listings.proofs.bytes.to_bytes.Tie as tie
 
--- from the lent numbers back to the decoded ones, from those to the decoded words, and from these to the entry
+-- The decoded numbers, seen from the slice passed on; the decoded words, seen from the numbers; the entry, seen from the words.
 abbrev numbers : tie.After-numbers3 → tie.After-take-numbers
 numbers c = c .before .before .before
 

@@ -1,10 +1,12 @@
--- `lists::to_numbers` meets its contract: it is the one call, and its count or its refusal crosses. Assumes nothing.
+-- `c_listings::to_numbers` is one call of `list`, with its count or refusal as one i64.
+-- The proof has one case for a count and one for a refusal. Assumes nothing.
 use mathlib.Core.Path.{_≡_, sym, ap, _∙_}
-use Prim.Native.Nat.{_<_}
+use Prim.Native.Nat.{_+_, _<_}
 use native.Mathlib.Omega.{arith}
 use borrow.Author.Needs.{needs}
 use mir.Syntax.{w64}
 use mir.ValLaws.{toZ-ofZ, toZ-pos}
+use Rattle.row.specs.Limits.{maxBits}
 use Rattle.row.specs.Answer.{at}
 use Rattle.wire.specs.Answer.{wireOf}
 use Rattle.list_slice.specs.WholeListing.{paperListed}
@@ -12,15 +14,15 @@ use Rattle.c_listings.proofs.Listed.{count-low}
 use Rattle.c_listings.proofs.numbers.to_numbers.Statement.{statement}
 use Rattle.c_listings.proofs.numbers.to_numbers.Tie as tie
 
--- from the count back to the listing that it is of
+-- The listing, seen from its count.
 abbrev listed : tie.After-known-told → tie.After-list
 listed c = c .before .before .before .before
 
--- what is counted
+-- The count is the answer of `list`, and it is at most 2^32 + 2.
 counted : (c : tie.After-known-told) → at (c .before .c .given .0 .0) ≡ paperListed (listed c .list .result)
 counted c = sym (ap paperListed (c .before .c .given .1))
 
-low : (c : tie.After-known-told) → c .before .c .given .0 .0 < 4294967299
+low : (c : tie.After-known-told) → c .before .c .given .0 .0 < (maxBits + 3)
 low c = count-low _ _ _ _ _ _ _ _ (counted c ∙ listed c .list .ensures .0)
 
 list-requires : tie.Need-list-requires

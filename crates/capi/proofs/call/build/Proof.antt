@@ -1,4 +1,5 @@
--- `capi::call::build` meets its contract: a refusal writes nothing, a build that is done writes its numbers. Assumes nothing.
+-- `capi::build` builds in an array of numbers and writes the node numbers as bytes; a refusal leaves the bytes unchanged.
+-- The proof has one case for a refusal and one for success. Assumes nothing.
 use mathlib.Core.Path.{_≡_, refl, sym, ap, _∙_}
 use Prim.Native.Nat.{_≤_}
 use native.Mathlib.Omega.{arith}
@@ -18,24 +19,24 @@ use borrow.Author.Needs.{needs}
 use Rattle.capi.proofs.call.build.Statement.{statement}
 use Rattle.capi.proofs.call.build.Tie as tie
 
--- from a build that is done back to its answer, and from that to the entry
+-- The answer of the build, seen from the arm of success, and the entry of the function, seen from that answer.
 abbrev built : tie.After-enum-told → tie.After-build
 built c = c .before .before .before
 
 abbrev entry : tie.After-build → tie.Start
 entry c = c .before .before .before .before
 
--- what the tests say
+-- The tests of the build.
 abbrev gate : tie.After-build → Gate
 gate c =
     let a = entry c .args in
     nodesGate (length (a .words .now)) (a .n) (length (a .numbers .now)) (a .block)
 
--- in the arm that writes, they are passed
+-- The tests passed in the arm that writes.
 passed : (c : tie.After-enum-told) → gate (built c) ≡ Pass
 passed c = built-passed _ (sym (ap paperBuilt (c .enum-told .given .1)) ∙ built c .build .ensures .0)
 
--- and there are as many numbers as are written
+-- In this arm the array has at least as many numbers as are written.
 enough : (c : tie.After-node-numbers) → c .node-numbers .result ≤ length (built (c .before) .build .last .1 .1 .0)
 enough c =
     let f = gate-fine _ _ _ _ (passed (c .before)) in

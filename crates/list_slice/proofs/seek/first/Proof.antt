@@ -1,4 +1,4 @@
--- `seek::first` meets its contract: what first_child answers opens the listing. Assumes nothing.
+-- `list_slice::first` starts a listing with the answer of `first_child`. The proof cites the contract of `opening`. Assumes nothing.
 use borrow.Author.Needs.{needs}
 use Rattle.list_slice.proofs.seek.first.Statement.{statement}
 use Rattle.list_slice.proofs.seek.first.Tie as tie

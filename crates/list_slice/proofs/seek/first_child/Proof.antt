@@ -1,4 +1,5 @@
--- `seek::first_child` meets its contract: refusals 1 to 5, then first_child. Assumes nothing.
+-- `list_slice::first_child` tests refusals 1 to 5 and then answers the first child.
+-- The proof has one case for a refusal and one for the answer. Assumes nothing.
 use mathlib.Core.Path.{sym, _∙_}
 use mathlib.Core.Bool.{true}
 use borrow.Author.Needs.{needs}

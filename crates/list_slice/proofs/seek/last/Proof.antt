@@ -1,4 +1,5 @@
--- `seek::last` meets its contract: what last_child answers, refusals 1 to 5 among it, opens the listing. Assumes nothing.
+-- `list_slice::last` starts a listing with the answer of `last_child`, which tests refusals 1 to 5 itself.
+-- The proof cites the contract of `opening`. Assumes nothing.
 use borrow.Author.Needs.{needs}
 use Rattle.list_slice.specs.Seek.{sought}
 use Rattle.list_slice.proofs.seek.last.Statement.{statement}

@@ -1,4 +1,5 @@
--- `seek::opening` meets its contract: a refusal is the making's, any other answer is held. Assumes nothing.
+-- `list_slice::opening` makes a refusal the constructor's answer and lets the listing hold any other answer.
+-- The proof has one case per arm. Assumes nothing.
 use borrow.Author.Needs.{needs}
 use Rattle.list_slice.proofs.seek.opening.Statement.{statement}
 use Rattle.list_slice.proofs.seek.opening.Tie as tie

@@ -1,5 +1,5 @@
--- `whole::list` meets its contract: a shut gate is the making's refusal and leaves the slice, an open one writes the answers.
--- Assumes nothing.
+-- `list_slice::list` constructs a listing and writes the answers of its steps. A refused constructor leaves the slice unchanged.
+-- The proof has one case for a refusal and one for the answers of `write_steps`. Assumes nothing.
 use mathlib.Core.Path.{_≡_, refl}
 use borrow.Author.Needs.{needs}
 use Rattle.row.specs.Answer.{Answer, paperFound}
@@ -11,11 +11,11 @@ use Rattle.list_slice.proofs.SliceWrites.{list-refused, list-passed}
 use Rattle.list_slice.proofs.write.list.Statement.{statement}
 use Rattle.list_slice.proofs.write.list.Tie as tie
 
--- what is sought
+-- The answer that the constructor finds.
 abbrev asked : tie.After-start → Answer
 asked c = let a = c .before .before .args in sought (a .rising) (a .words .now) (a .n) (a .nodes .now) (a .block) (a .v)
 
--- in the arm that writes, it is what the listing holds, and no refusal
+-- In the arm that writes, the listing holds this answer, and it is no refusal.
 passed : (c : tie.After-enum-told) → let s = c .before .before in Unrefused (asked s) × (paperFound (s .start .result .held) ≡ asked s)
 passed c = let s = c .before .before in starts-passed (asked s) (s .start .result) (s .start .ensures) (c .enum-told .given .1)
 

@@ -1,4 +1,4 @@
--- `whole::start` meets its contract: either way, where that listing starts. Assumes nothing.
+-- `list_slice::start` constructs a listing in either direction. The proof has one case per direction. Assumes nothing.
 use borrow.Author.Needs.{needs}
 use Rattle.list_slice.proofs.write.start.Statement.{statement}
 use Rattle.list_slice.proofs.write.start.Tie as tie

@@ -1,5 +1,6 @@
--- `whole::write_steps` meets its contract. The loop's invariant: the first i answers are written, the next is held, and what
--- stands past them is as it came. The measure is the room that is left. Assumes nothing.
+-- `list_slice::write_steps` writes the answers of the steps up to and with the first `nothing`, or until the slice is full.
+-- Loop invariant: the first i answers are written, `held` is the next one, and the entries after them are unchanged.
+-- The measure is the room left in the slice. Assumes nothing.
 use mathlib.Core.Path.{_≡_, sym, _∙_}
 use Prim.Native.Nat.{_-_}
 use native.Mathlib.Omega.{arith}
@@ -26,7 +27,7 @@ abbrev μ-loop : tie.MeasureT-loop
 loop-holds : tie.Need-loop-holds Inv-loop μ-loop
 loop-holds c = (c .before .pre .1, writing-start _ _ _)
 
--- the number that is written
+-- The number that is written is the held answer on the wire.
 number : (c : tie.After-found Inv-loop μ-loop) → toZ w64 (ofZ w64 (c .found .result)) ≡ wireOf (paperFound (c .before .before .loop .held))
 number c = toZ-ofZ w64 (c .found .result) (record { sfits = c .found .ok }) ∙ c .found .ensures
 

@@ -1,4 +1,5 @@
--- `listing::iter::children` meets its contract: it makes a rising listing, which starts where `first` says. Assumes nothing.
+-- `list_struct::children` constructs a rising listing that starts with what `first` returns.
+-- The proof cites `makes` for this direction. Assumes nothing.
 use mathlib.Core.Bool.{true}
 use base.Logic.{emp}
 use contract.Monad.{factI}

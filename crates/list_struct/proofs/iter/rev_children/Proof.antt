@@ -1,4 +1,5 @@
--- `listing::iter::rev_children` meets its contract: it makes a falling listing, which starts where `last` says. Assumes nothing.
+-- `list_struct::rev_children` constructs a falling listing that starts with what `last` returns.
+-- The proof cites `makes` for this direction. Assumes nothing.
 use mathlib.Core.Bool.{false}
 use base.Logic.{emp}
 use contract.Monad.{factI}

@@ -1,4 +1,5 @@
--- `mmt::build` meets its contract: a shut gate is the refusal and keeps the nodes, an open one writes them. Assumes nothing.
+-- `mmt_build::build` makes tests 1 to 4, then fills the nodes. On refusal the buffer is unchanged; otherwise it is what `fill` promises.
+-- Assumes nothing.
 use mathlib.Core.Path.{_≡_, sym, _∙_}
 use lib.ListN.{length}
 use borrow.Author.Needs.{needs}
@@ -10,11 +11,11 @@ use Rattle.mmt_build.proofs.Filled.{when-passed, build-refused}
 use Rattle.mmt_build.proofs.builder.build.Statement.{statement}
 use Rattle.mmt_build.proofs.builder.build.Tie as tie
 
--- what the tests say
+-- the result of tests 1 to 4
 abbrev gate : tie.After-admit → Gate
 gate c = let a = c .before .before .args in nodesGate (length (a .words .now)) (a .n) (length (a .nodes .now)) (a .block)
 
--- in the arm that writes, they are passed
+-- in the branch that fills the nodes, the tests have passed
 passed : (c : tie.After-enum-told) → gate (c .before .before) ≡ Pass
 passed c = sym (c .before .before .admit .ensures) ∙ c .enum-told .given .1
 

@@ -1,4 +1,4 @@
--- `mmt::fill` meets its contract: the layout's counts, handed on. Assumes nothing.
+-- `mmt_build::fill` computes the layout and calls `fill_nodes` with I and L + I. Assumes nothing.
 use mathlib.Core.Path.{_≡_, ap, _∙_}
 use Prim.Native.Nat.{_+_}
 use native.Mathlib.Nat.{add-comm}
@@ -10,7 +10,7 @@ use Rattle.mmt_layout.proofs.Admitted.{count-small}
 use Rattle.mmt_build.proofs.builder.fill.Statement.{statement}
 use Rattle.mmt_build.proofs.builder.fill.Tie as tie
 
--- the first leaf and the count of nodes
+-- the layout gives I and L + I
 laid : (c : tie.After-layout-of) → let a = c .before .before .args in let l = c .layout-of .result in (l .inner ≡ inner (a .n) (a .block)) × (l .inner + l .leaves ≡ count (a .n) (a .block))
 laid c = let e = c .layout-of .ensures in (ap (λ (l : Layout). l .inner) e, ap (λ (l : Layout). l .inner + l .leaves) e ∙ add-comm _ _)
 

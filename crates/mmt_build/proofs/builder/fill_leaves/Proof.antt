@@ -1,5 +1,5 @@
--- `mmt::fill_leaves` meets its contract. The loop's invariant: the first b leaves are filled. The measure is how many are
--- left. Assumes nothing.
+-- `mmt_build::fill_leaves` fills the block leaves from the first to the last. Loop invariant: the first b block leaves are filled.
+-- Measure: the number of block leaves that are left. Assumes nothing.
 use mathlib.Core.Path.{_≡_, _∙_}
 use Prim.Native.Nat.{_-_, _≤_}
 use borrow.Author.Needs.{needs}
@@ -19,7 +19,7 @@ Inv-loop t words n block part₀ l b₀ part b = (b ≤ l) × (length part ≡ l
 abbrev μ-loop : tie.MeasureT-loop
 μ-loop t words n block part₀ l b₀ part b = l - b
 
--- the entry, from the loop
+-- the start of the function, reached back from the loop
 abbrev entry : tie.At-loop Inv-loop μ-loop → tie.Start Inv-loop μ-loop
 entry t = t .before .before
 
@@ -44,7 +44,7 @@ loop-less c = search needs
 
 loop-again : tie.Need-loop-again Inv-loop μ-loop
 loop-again c =
-    -- where the leaf is measured, and the loop
+    -- m: the state after `leaf_summary`; t: the state at the head of the loop
     let m = c .before .before in
     let t = m .before .before .before in
     let a = entry t .args in

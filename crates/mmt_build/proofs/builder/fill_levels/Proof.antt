@@ -1,5 +1,5 @@
--- `mmt::fill_levels` meets its contract. The loop's invariant: the nodes from k on are filled. The measure is k.
--- Assumes nothing.
+-- `mmt_build::fill_levels` fills the inner nodes from the last one down to node 0. Loop invariant: the nodes from k on have their required
+-- entries, and the length and the entries after the nodes are unchanged. Measure: k. Assumes nothing.
 use mathlib.Core.Path.{_≡_}
 use Prim.Native.Nat.{_+_, _-_, _≤_}
 use borrow.Author.Needs.{needs}
@@ -15,7 +15,7 @@ Inv-loop t words n nodes₀ block first all k₀ nodes k = (k ≤ first) × Leve
 abbrev μ-loop : tie.MeasureT-loop
 μ-loop t words n nodes₀ block first all k₀ nodes k = k
 
--- the entry, from the loop
+-- the start of the function, reached back from the loop
 abbrev entry : tie.At-loop Inv-loop μ-loop → tie.Start Inv-loop μ-loop
 entry t = t .before .before
 
@@ -47,7 +47,7 @@ loop-less c = search needs
 
 loop-again : tie.Need-loop-again Inv-loop μ-loop
 loop-again c =
-    -- where the node's numbers are answered, and the loop
+    -- w: the state after `wanted`; t: the state at the head of the loop
     let w = c .before .before .before in
     let t = w .before .before .before in
     let s = entry t in

@@ -1,4 +1,5 @@
--- `mmt::fill_nodes` meets its contract: the leaves' part, put back, and then the levels above. Assumes nothing.
+-- `mmt_build::fill_nodes` fills the block leaves in their part of the buffer, then the inner nodes. The proof puts the filled part back into
+-- the buffer and continues with the contract of `fill_levels`. Assumes nothing.
 use mathlib.Core.Path.{_≡_, _∙_}
 use Prim.Native.Nat.{_-_, _*_}
 use borrow.Author.Needs.{needs}
@@ -11,21 +12,22 @@ use Rattle.mmt_build.proofs.Filled.{back, leveled-on, leaves-leveled, l
 use Rattle.mmt_build.proofs.builder.fill_nodes.Statement.{statement}
 use Rattle.mmt_build.proofs.builder.fill_nodes.Tie as tie
 
--- the entry, from the call that fills the leaves, and that call's end, from the call that fills the levels
+-- the start of the function, reached back from the call of `fill_leaves`
+-- `filled`: the state after that call, reached back from the call of `fill_levels`
 abbrev entry : tie.After-fill-leaves-arg → tie.Start
 entry c = c .before .before .before .before
 
 abbrev filled : tie.After-fill-levels-arg → tie.After-fill-leaves
 filled c = c .before .before .before
 
--- the leaves' part has room for the leaves and no more
+-- the part has exactly three entries per block leaf
 lent : (s : tie.Start) → let a = s .args in length (take (width * a .all - width * a .first) (drop (width * a .first) (a .nodes .now))) ≡ width * leaves (a .n) (a .block)
 lent s =
     let f = s .pre .0 in
     let e = s .pre .1 in
     simp (length-take, length-drop) (omega (arith, layout-leaves (s .args .n) (s .args .block) (omega arith)))
 
--- with the leaves' part put back, the leaves are filled
+-- after the part is put back, the nodes from I on have their required entries
 middle : (c : tie.After-fill-leaves) → let a = entry (c .before) .args in
     Leveled (a .words .now) (a .n) (a .nodes .now) (a .block) (inner (a .n) (a .block)) (back (width * a .first) (width * a .all - width * a .first) (a .nodes .now) (c .fill-leaves .last .1 .1 .1 .1 .0))
 middle c =

@@ -1,5 +1,5 @@
--- `mmt::all_wanted` meets its contract. The loop's invariant: the nodes from k on are as built, so that those below k decide. The
--- measure is k. Assumes nothing.
+-- `mmt_build::all_wanted` tests the nodes from the last one down to node 0. Loop invariant: the nodes from k on have their required entries,
+-- so the nodes below k decide. Measure: k. Assumes nothing.
 use mathlib.Core.Path.{_≡_, sym, ap₂, _∙_}
 use Prim.Native.Nat.{_-_}
 use borrow.Author.Needs.{needs}
@@ -16,7 +16,8 @@ Inv-loop t words n nodes block first all k₀ k = Checked words n nodes block k
 abbrev μ-loop : tie.MeasureT-loop
 μ-loop t words n nodes block first all k₀ k = k
 
--- the entry, from the loop, and the loop, from where two nodes' numbers are compared
+-- the start of the function, reached back from the loop
+-- `top`: the head of the loop, reached back from the comparison of two nodes
 abbrev entry : tie.At-loop Inv-loop μ-loop → tie.Start Inv-loop μ-loop
 entry t = t .before .before
 
@@ -41,7 +42,7 @@ node-at-requires c κs = search needs
 same-requires : tie.Need-same-requires Inv-loop μ-loop
 same-requires c κs = search needs
 
--- what the test of the next node down found
+-- the result of `same` is that of the test of node k - 1
 found : (c : tie.After-same Inv-loop μ-loop) → let a = entry (top c) .args in
     c .same .result ≡ nodeTest (a .words .now) (a .n) (a .nodes .now) (a .block) (top c .loop .k - 1)
 found c = c .same .ensures ∙ ap₂ sameSummary (c .before .node-at .ensures) (c .before .before .wanted .ensures)

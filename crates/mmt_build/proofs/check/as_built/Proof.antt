@@ -1,4 +1,4 @@
--- `mmt::as_built` meets its contract: refused, yes or no, each by what led there. Assumes nothing.
+-- `mmt_build::as_built` makes tests 1 to 4, then tests all nodes. Each of its three answers is one law of Tested.antt. Assumes nothing.
 use mathlib.Core.Path.{_≡_, sym, _∙_}
 use borrow.Author.Needs.{needs}
 use lib.ListN.{length}
@@ -9,7 +9,7 @@ use Rattle.mmt_build.proofs.Tested.{when-refused, when-built, when-not}
 use Rattle.mmt_build.proofs.check.as_built.Statement.{statement}
 use Rattle.mmt_build.proofs.check.as_built.Tie as tie
 
--- in the arm that tests the nodes, nothing is refused
+-- in the branch that tests the nodes, tests 1 to 4 have passed
 passed : (c : tie.After-enum-told) → let a = c .before .before .before .before .args in nodesGate (length (a .words .now)) (a .n) (length (a .nodes .now)) (a .block) ≡ Pass
 passed c = sym (c .before .before .admit .ensures) ∙ c .enum-told .given .1
 

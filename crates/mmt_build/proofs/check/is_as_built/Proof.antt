@@ -1,4 +1,4 @@
--- `mmt::is_as_built` meets its contract: the test of all nodes, with the layout's counts. Assumes nothing.
+-- `mmt_build::is_as_built` computes the layout and the lookup table, and calls `all_wanted` with them. Assumes nothing.
 use mathlib.Core.Path.{_≡_, ap}
 use Prim.Native.Nat.{_+_}
 use native.Mathlib.Omega.{arith}
@@ -9,7 +9,7 @@ use Rattle.mmt_layout.proofs.Admitted.{count-small}
 use Rattle.mmt_build.proofs.check.is_as_built.Statement.{statement}
 use Rattle.mmt_build.proofs.check.is_as_built.Tie as tie
 
--- the nodes of the layout
+-- the block leaves and inner nodes of the layout are L + I nodes together
 nodes : (c : tie.After-layout-of) → c .layout-of .result .leaves + c .layout-of .result .inner ≡ count (c .before .before .args .n) (c .before .before .args .block)
 nodes c = ap (λ (l : Layout). l .leaves + l .inner) (c .layout-of .ensures)
 

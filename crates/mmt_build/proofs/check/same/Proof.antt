@@ -1,4 +1,5 @@
--- `mmt::same` meets its contract: the third test where the first two hold, and no where they do not. Assumes nothing.
+-- `mmt_build::same` compares the three entries of two nodes. If the first two are the same, the third comparison is the answer;
+-- otherwise the answer is no. Assumes nothing.
 use mathlib.Core.Path.{_≡_, sym, _∙_}
 use mathlib.Core.Logic.{inl, inr}
 use native.Mathlib.Omega.{arith}
@@ -10,11 +11,11 @@ use Rattle.mmt_build.proofs.Tested.{firstTwo, two-agree, two-differ}
 use Rattle.mmt_build.proofs.check.same.Statement.{statement}
 use Rattle.mmt_build.proofs.check.same.Tie as tie
 
--- the entry, from the first test
+-- the start of the function, reached back from the first comparison
 abbrev entry : tie.After-struct-told2 → tie.Start
 entry c = c .before .before .before .before
 
--- where the first two tests meet
+-- the point where the branches of the first two comparisons join
 met : (c : tie.Joined1) → let a = entry (c .before) .args in c .if1 .if2 ≡ firstTwo (a .x) (a .y)
 met c =
     let a = entry (c .before) .args in

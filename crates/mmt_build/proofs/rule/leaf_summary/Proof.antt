@@ -1,4 +1,5 @@
--- `mmt::leaf_summary` meets its contract: the bits of block b, up to n. Assumes nothing.
+-- `mmt_build::leaf_summary` computes the summary of block b. The block begins at a byte boundary and ends at n at the latest.
+-- Assumes nothing.
 use mathlib.Core.Path.{_≡_}
 use Prim.Native.Nat.{_-_, _*_, min}
 use borrow.Author.Needs.{needs}

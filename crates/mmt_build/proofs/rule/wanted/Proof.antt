@@ -1,5 +1,5 @@
--- `mmt::wanted` meets its contract: an inner node from those after it, which are small because they are as built; a leaf from
--- its bits. Assumes nothing.
+-- `mmt_build::wanted` computes the required entries of node k. The children of an inner node have their required entries, so these are small
+-- enough to be joined. A block leaf is computed from its bits. Assumes nothing.
 use mathlib.Core.Path.{sym, ap, _∙_}
 use Prim.Native.Nat.{ℕ, _+_, _-_, _*_, _≤_, _<_}
 use native.Mathlib.Omega.{arith}
@@ -12,7 +12,7 @@ use Rattle.mmt_node.proofs.Covered.{ruled-tame}
 use Rattle.mmt_build.proofs.rule.wanted.Statement.{statement}
 use Rattle.mmt_build.proofs.rule.wanted.Tie as tie
 
--- the node is one of the layout's
+-- node k is one of the L + I nodes
 within : (c : tie.Start) → c .args .k < count (c .args .n) (c .args .block)
 within c = let e = c .pre .1 .1 .0 in omega arith
 

@@ -1,4 +1,4 @@
--- `probe::bp_bwd_search` meets its contract: it is the one question, and r is asked as it came. Assumes nothing.
+-- `probe::bp_bwd_search` is the request `BwdSearch` over bytes, with r unchanged; its contract is the one of `over_bytes`. Assumes nothing.
 use mathlib.Core.Path.{_∙_}
 use mir.Syntax.{w64}
 use mir.ValLaws.{toZ-ofZ}

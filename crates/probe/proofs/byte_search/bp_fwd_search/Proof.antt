@@ -1,4 +1,4 @@
--- `probe::bp_fwd_search` meets its contract: it is the one question, and r is asked as it came. Assumes nothing.
+-- `probe::bp_fwd_search` is the request `FwdSearch` over bytes, with r unchanged; its contract is the one of `over_bytes`. Assumes nothing.
 use mathlib.Core.Path.{_∙_}
 use mir.Syntax.{w64}
 use mir.ValLaws.{toZ-ofZ}

@@ -1,4 +1,5 @@
--- `probe::bpw_is_leaf` meets its contract: it is the one call, and its answer crosses. Assumes nothing.
+-- `probe::bpw_is_leaf` makes the call `is_leaf` and returns its answer as one i64.
+-- The proof: the answer fits into an i64, so the conversion keeps its value. Assumes nothing.
 use borrow.Author.Needs.{needs}
 use Rattle.c_dispatch.proofs.Small.{crossed}
 use Rattle.probe.proofs.word_node.bpw_is_leaf.Statement.{statement}

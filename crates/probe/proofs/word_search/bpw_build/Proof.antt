@@ -1,4 +1,5 @@
--- `probe::bpw_build` meets its contract: it is the one call, and its answer crosses. Assumes nothing.
+-- `probe::bpw_build` makes the call `build` and returns its answer as one i64.
+-- The proof: the answer fits into an i64, so the conversion keeps its value. Assumes nothing.
 use borrow.Author.Needs.{needs}
 use Rattle.c_dispatch.proofs.Small.{crossed}
 use Rattle.probe.proofs.word_search.bpw_build.Statement.{statement}

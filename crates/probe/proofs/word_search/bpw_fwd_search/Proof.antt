@@ -1,4 +1,5 @@
--- `probe::bpw_fwd_search` meets its contract: it is the one call, and its answer crosses. Assumes nothing.
+-- `probe::bpw_fwd_search` makes the call `fwd_search` and returns its answer as one i64.
+-- The proof: the answer fits into an i64, so the conversion keeps its value. Assumes nothing.
 use borrow.Author.Needs.{needs}
 use Rattle.bp_spec.specs.declared.question.Question.the-variants.{FwdSearch}
 use mir.Syntax.{w64}

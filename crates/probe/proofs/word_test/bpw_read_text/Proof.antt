@@ -1,4 +1,5 @@
--- `probe::bpw_read_text` meets its contract: it is the one call, and its answer crosses. Assumes nothing.
+-- `probe::bpw_read_text` makes the call `read_text` and returns its answer as one i64.
+-- The proof: the answer fits into an i64, so the conversion keeps its value. Assumes nothing.
 use borrow.Author.Needs.{needs}
 use Rattle.c_dispatch.proofs.Small.{read-small, small-as, crossed}
 use Rattle.probe.proofs.word_test.bpw_read_text.Statement.{statement}

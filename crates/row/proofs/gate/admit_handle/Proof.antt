@@ -1,4 +1,4 @@
--- `row::admit_handle` meets its contract: each return by the tests that led there. Assumes nothing.
+-- `row::admit_handle` tests whether a position is below n and its bit is open. Each return follows from the tests before it. Assumes nothing.
 use mathlib.Core.Path.{sym, _∙_}
 use borrow.Author.Needs.{needs}
 use native.Mathlib.Omega.{arith}

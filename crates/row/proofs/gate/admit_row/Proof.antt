@@ -1,4 +1,4 @@
--- `row::admit_row` meets its contract: each return by the tests that led there. Assumes nothing.
+-- `row::admit_row` makes the tests of refusals 2 and 3. Each return follows from the tests before it. Assumes nothing.
 use borrow.Author.Needs.{needs}
 use native.Mathlib.Omega.{arith}
 use Rattle.row.proofs.Gates.{row-many, row-few, row-passed}

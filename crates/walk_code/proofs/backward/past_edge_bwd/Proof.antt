@@ -1,12 +1,14 @@
 -- `walking::backward::past_edge_bwd` meets its contract: the rest of the starting block holds the position, or leaves what is sought beyond. Assumes
 -- nothing.
 use mathlib.Core.Path.{_≡_, sym, _∙_}
-use Prim.Native.Nat.{_-_, _*_, _≤_}
+use Prim.Native.Nat.{_+_, _-_, _*_, _≤_}
 use native.Mathlib.Omega.{arith}
 use borrow.Author.Needs.{needs}
 use mir.Syntax.{w64}
 use mir.Val.{SFits}
 use mir.ValLaws.{toZ-ofZ}
+use Rattle.row.specs.Limits.{maxBits}
+use Rattle.mmt_layout.specs.Layout.{maxBlock}
 use Rattle.ints.specs.Sides.{size}
 use Rattle.ints.proofs.Shapes.{zsum}
 use Rattle.row.specs.Bits.{bitAt}
@@ -53,7 +55,7 @@ read : (c : tie.After-bwd-search-block) → (let a = entry (made c) .args in
 read c = rw (toZ-ofZ w64 _ (entry (made c) .fits .r)) at (c .bwd-search-block .ensures)
 
 -- what it leaves
-left : (c : tie.After-q) → size (c .q .given .0 .0) ≤ 4295032832
+left : (c : tie.After-q) → size (c .q .given .0 .0) ≤ (maxBits + maxBlock)
 left c =
     let n = c .before .before in
     let s = entry (made n) in

@@ -7,6 +7,8 @@ use borrow.Author.Needs.{needs}
 use mir.Syntax.{w64}
 use mir.Val.{SFits}
 use mir.ValLaws.{toZ-ofZ}
+use Rattle.row.specs.Limits.{maxBits}
+use Rattle.mmt_layout.specs.Layout.{maxBlock}
 use Rattle.ints.specs.Sides.{size}
 use Rattle.ints.proofs.Shapes.{zsum}
 use Rattle.row.specs.Bits.{bitAt}
@@ -63,7 +65,7 @@ read : (c : tie.After-fwd-search-block) → (let a = entry (made c) .args in
 read c = rw (toZ-ofZ w64 _ (entry (made c) .fits .r), c .before .earlier .ensures) at (c .fwd-search-block .ensures)
 
 -- what it leaves
-left : (c : tie.After-q) → size (c .q .given .0 .0) ≤ 4295032832
+left : (c : tie.After-q) → size (c .q .given .0 .0) ≤ (maxBits + maxBlock)
 left c =
     let n = c .before .before in
     let s = entry (made n) in

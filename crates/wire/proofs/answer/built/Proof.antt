@@ -1,4 +1,4 @@
--- `wire::built` meets its contract, arm by arm. Assumes nothing.
+-- `wire::built` returns the i64 of the answer of a build. The proof has one case per arm of the `match`. Assumes nothing.
 use mathlib.Core.Path.{sym, ap, _∙_}
 use mir.Syntax.{w64}
 use mir.ValLaws.{toZ-ofZ}

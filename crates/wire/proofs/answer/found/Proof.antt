@@ -1,4 +1,4 @@
--- `wire::found` meets its contract, arm by arm. Assumes nothing.
+-- `wire::found` returns the i64 of an answer of type `Found`. The proof has one case per arm of the `match`. Assumes nothing.
 use mathlib.Core.Path.{sym, ap, _∙_}
 use native.Mathlib.Omega.{arith}
 use mir.Syntax.{w64}

@@ -1,4 +1,4 @@
--- `wire::read` meets its contract, arm by arm. Assumes nothing.
+-- `wire::read` returns the i64 of the answer of the text reader. The proof has one case per arm of the `match`. Assumes nothing.
 use mathlib.Core.Path.{sym, ap, _∙_}
 use native.Mathlib.Omega.{arith}
 use mir.Syntax.{w64}

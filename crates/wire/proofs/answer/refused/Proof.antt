@@ -1,4 +1,4 @@
--- `wire::refused` meets its contract: the number is small. Assumes nothing.
+-- `wire::refused` returns -1 minus the number of a refusal. The number is below 9, so nothing overflows. Assumes nothing.
 use native.Mathlib.Omega.{arith}
 use mir.Syntax.{w64}
 use mir.ValLaws.{toZ-ofZ}

@@ -1,4 +1,4 @@
--- `wire::told` meets its contract, arm by arm. Assumes nothing.
+-- `wire::told` returns the i64 of a yes-or-no answer. The proof has one case per arm of the `match`. Assumes nothing.
 use mathlib.Core.Path.{sym, ap, _∙_}
 use mir.Syntax.{w64}
 use mir.ValLaws.{toZ-ofZ}

@@ -1,4 +1,4 @@
--- `wire::half` meets its contract: four bytes are below 2^32. Assumes nothing.
+-- `wire::half` decodes a number from four bytes. Each byte is below 256, so the number is below 2^32. Assumes nothing.
 use native.Mathlib.Omega.{arith}
 use Rattle.wire.specs.Bytes.{halfAt}
 use borrow.Author.Needs.{needs}
@@ -59,7 +59,7 @@ add-result-3 c = search needs
 returns : tie.Need-returns
 unfolding halfAt
 returns c =
-    -- the bytes, from the last to the first
+    -- k, j and i are the states after the third, the second and the first byte is read; c is the state after the fourth.
     let k = c .before .before in
     let j = k .before .before in
     let i = j .before .before in

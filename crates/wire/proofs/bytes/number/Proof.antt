@@ -1,4 +1,4 @@
--- `wire::number` meets its contract. Assumes nothing.
+-- `wire::number` decodes a signed number from eight bytes: `of_word` of the decoded word. Assumes nothing.
 use mathlib.Core.Path.{ap, _∙_}
 use mir.Syntax.{w64}
 use mir.Val.{toZ}

@@ -1,4 +1,5 @@
--- `wire::of_word` meets its contract. Assumes nothing.
+-- `wire::of_word` returns the signed number with given 64 bits. The proof has one case for words below 2^63 and one for the others.
+-- Assumes nothing.
 use mir.Syntax.{w64}
 use mir.ValLaws.{toZ-ofZ, toZ-fits}
 use Rattle.wire.proofs.Twos.{high}

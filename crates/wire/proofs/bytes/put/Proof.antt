@@ -1,4 +1,4 @@
--- `wire::put` meets its contract: eight stores in a row. Assumes nothing.
+-- `wire::put` writes the eight bytes of a word. Eight writes to consecutive entries together give `putAt`. Assumes nothing.
 use native.Mathlib.Omega.{arith}
 use mathlib.Core.Path.{_≡_}
 use Prim.Native.Nat.{suc, _+_}

@@ -1,4 +1,4 @@
--- `wire::put_number` meets its contract. Assumes nothing.
+-- `wire::put_number` writes the eight bytes of a signed number: it writes the word that `to_word` returns. Assumes nothing.
 use mathlib.Core.Path.{ap, _∙_}
 use mir.Syntax.{w64}
 use mir.ValLaws.{toZ-ofZ}

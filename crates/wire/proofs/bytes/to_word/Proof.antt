@@ -1,4 +1,4 @@
--- `wire::to_word` meets its contract: below 0 by -1 - z, which every i64 has. Assumes nothing.
+-- `wire::to_word` returns the 64 bits of a signed number. For a negative z it uses -1 - z, which exists for every i64. Assumes nothing.
 use mir.Syntax.{w64}
 use mir.ValLaws.{toZ-ofZ}
 use native.Mathlib.Omega.{arith}

@@ -1,4 +1,4 @@
--- `wire::word` meets its contract: its two halves. Assumes nothing.
+-- `wire::word` decodes a word from eight bytes: the low half plus 2^32 times the high half. Assumes nothing.
 use Rattle.wire.specs.Bytes.{wordAt}
 use borrow.Author.Needs.{needs}
 use Rattle.wire.proofs.bytes.word.Statement.{statement}

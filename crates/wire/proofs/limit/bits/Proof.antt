@@ -1,8 +1,12 @@
--- `wire::bits` meets its contract. Assumes nothing.
+-- `wire::bits` turns a bit count above 4,096 into 2^32 + 1. Each return follows from the test. Assumes nothing.
+use borrow.Author.Needs.{needs}
 use borrow.Author.Tests.{lt-leb, le-leb}
 use Rattle.wire.specs.Limit.{wireBits}
 use Rattle.wire.proofs.limit.bits.Statement.{statement}
 use Rattle.wire.proofs.limit.bits.Tie as tie
+
+add-result : tie.Need-add-result
+add-result c = search needs
 
 returns : tie.Need-returns
 unfolding wireBits
@@ -13,4 +17,4 @@ unfolding wireBits
 returns-2 c = simp (le-leb _ _ (c .if1 .left))
 
 pub bits-spec : {M : Type 1} → statement M
-bits-spec = tie.close (tie.spec returns returns-2)
+bits-spec = tie.close (tie.spec add-result returns returns-2)

@@ -1,4 +1,5 @@
--- `wire::read_words` meets its contract: the first i words of out are those at their places. Measure: what is left of out. Assumes nothing.
+-- `wire::read_words` decodes one word into each entry of `out`. Loop invariant: the first i entries are decoded.
+-- Measure: the number of entries left. Assumes nothing.
 use native.Mathlib.Omega.{arith}
 use borrow.Author.Needs.{needs}
 use mathlib.Core.Path.{_≡_, refl}
@@ -15,7 +16,7 @@ Inv-loop bytes out₀ i₀ out i = (i ≤ length out₀) × (length out ≡ leng
 abbrev μ-loop : tie.MeasureT-loop
 μ-loop bytes out₀ i₀ out i = length out₀ - i
 
--- from the loop's head back to the entry
+-- The entry of the function, seen from the head of the loop.
 abbrev entry : tie.At-loop Inv-loop μ-loop → tie.Start Inv-loop μ-loop
 entry c = c .before .before .before
 

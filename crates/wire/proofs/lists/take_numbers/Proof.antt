@@ -1,4 +1,4 @@
--- `wire::take_numbers` meets its contract: the part that fits is lent and read. Assumes nothing.
+-- `wire::take_numbers` decodes as many signed numbers as fit. It passes the prefix of `out` that fits to `read_numbers`. Assumes nothing.
 use native.Mathlib.Omega.{arith}
 use mathlib.Core.Path.{sym}
 use Prim.Native.Nat.{_*_, _≤_}
@@ -10,7 +10,7 @@ use borrow.Author.Needs.{needs}
 use Rattle.wire.proofs.lists.take_numbers.Statement.{statement}
 use Rattle.wire.proofs.lists.take_numbers.Tie as tie
 
--- from where it is known how many numbers fit back to the entry
+-- The entry of the function, seen from the point where the number of fitting numbers is known.
 abbrev entry : tie.After-fitting → tie.Start
 entry c = c .before .before
 

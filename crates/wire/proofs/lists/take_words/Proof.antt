@@ -1,4 +1,4 @@
--- `wire::take_words` meets its contract: the part that fits is lent and read. Assumes nothing.
+-- `wire::take_words` decodes as many words as fit. It passes the prefix of `out` that fits to `read_words`. Assumes nothing.
 use native.Mathlib.Omega.{arith}
 use mathlib.Core.Path.{sym}
 use Prim.Native.Nat.{_*_, _≤_}
@@ -10,7 +10,7 @@ use borrow.Author.Needs.{needs}
 use Rattle.wire.proofs.lists.take_words.Statement.{statement}
 use Rattle.wire.proofs.lists.take_words.Tie as tie
 
--- from where it is known how many words fit back to the entry
+-- The entry of the function, seen from the point where the number of fitting words is known.
 abbrev entry : tie.After-fitting → tie.Start
 entry c = c .before .before .before
 

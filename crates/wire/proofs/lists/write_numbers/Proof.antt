@@ -1,4 +1,5 @@
--- `wire::write_numbers` meets its contract: the first i numbers stand over the front. Measure: the numbers left. Assumes nothing.
+-- `wire::write_numbers` writes signed numbers at the front of a byte slice. Loop invariant: the first i numbers are written, and
+-- the bytes after them are unchanged. Measure: the number of numbers left. Assumes nothing.
 use native.Mathlib.Omega.{arith}
 use borrow.Author.Needs.{needs}
 use mathlib.Core.Path.{_≡_, refl, sym, ap, _∙_}
@@ -21,7 +22,7 @@ Inv-loop numbers bytes₀ i₀ bytes i =
 abbrev μ-loop : tie.MeasureT-loop
 μ-loop numbers bytes₀ i₀ bytes i = length numbers - i
 
--- from the loop's head back to the entry
+-- The entry of the function, seen from the head of the loop.
 abbrev entry : tie.At-loop Inv-loop μ-loop → tie.Start Inv-loop μ-loop
 entry c = c .before .before
 

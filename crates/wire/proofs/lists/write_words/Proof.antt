@@ -1,4 +1,5 @@
--- `wire::write_words` meets its contract: the first i words stand over the front. Measure: the words left. Assumes nothing.
+-- `wire::write_words` writes words at the front of a byte slice. Loop invariant: the first i words are written, and the bytes
+-- after them are unchanged. Measure: the number of words left. Assumes nothing.
 use native.Mathlib.Omega.{arith}
 use borrow.Author.Needs.{needs}
 use mathlib.Core.Path.{_≡_, refl, _∙_}
@@ -15,7 +16,7 @@ Inv-loop words bytes₀ i₀ bytes i = (i ≤ length words) × (bytes ≡ wordsO
 abbrev μ-loop : tie.MeasureT-loop
 μ-loop words bytes₀ i₀ bytes i = length words - i
 
--- from the loop's head back to the entry
+-- The entry of the function, seen from the head of the loop.
 abbrev entry : tie.At-loop Inv-loop μ-loop → tie.Start Inv-loop μ-loop
 entry c = c .before .before .before
 
