@@ -1,29 +1,57 @@
 /* Navigation in outlines that are stored as rows of parentheses, one bit per parenthesis.
  *
- * The functions live in two static libraries:
- *   libcapi.a    bp_build, bp_close, bp_enclose and bp_is_ancestor
- *   libprobe.a   all other functions
+ * How to use the functions:
  *
- * How to use them: fill a row, or convert a text with bp_read_text. Allocate a node buffer and fill it with bp_build. Then
- * call the other functions with the same row, `bits`, node buffer and `block`.
+ *   1. Fill a row, or convert a text to a row with bp_read_text.
+ *   2. Allocate a node buffer ("SIZE OF THE NODE BUFFER") and fill it with bp_build.
+ *   3. Call the other functions with the same row, `bits`, node buffer and `block`.
+ *
+ * Every function exists twice. bp_NAME takes byte slices, for rows of up to 4,096 bits. bpw_NAME takes arrays of 64-bit
+ * words and entries, for rows of up to 2^32 bits.
+ *
+ * Some comments have a line `Exactly`. The line `Exactly` is the definition; the sentence before it explains the usual case.
+ *
+ *
+ * WARNING: WRONG ANSWERS FROM A NODE BUFFER THAT IS NOT AS BUILT
+ *
+ * A node buffer is "as built" if it begins with exactly the entries that a build writes for this row, `bits` and `block`.
+ * With such a buffer every function returns what its comment says, and never refusal 8.
+ * With any other buffer a function can return a WRONG ANSWER instead of refusal 8. A wrong position is still below `bits`.
+ * Test every node buffer that you did not build yourself with bp_as_built or bpw_as_built before you use it.
+ *
+ *
+ * THE LIBRARIES
+ *
+ * The functions live in two static libraries for Linux on x86-64:
+ *
+ *   library      built with           functions
+ *   libcapi.a    rt staticlib capi    bp_build, bp_close, bp_enclose and bp_is_ancestor
+ *   libprobe.a   rt staticlib probe   all other functions of this header
+ *
+ * Run the two commands in the root folder of the repository. `rt` is the tool of the Rattle kit. It proves the code and
+ * writes the libraries to target/staticlib. No function is in both libraries, so a program can link both.
  *
  *
  * TERMS
  *
  *   row           An array of 64-bit words and a bit count `bits`. Bit i of the row is bit (i mod 64) of word (i div 64),
- *                 where bit 0 of a word is its least significant bit. Bits at position `bits` and after it never matter.
- *                 Words that `bits` does not need never matter.
+ *                 where bit 0 of a word is its least significant bit. Only the first bits / 64 words, rounded up, are used.
+ *                 Bits of the last used word from position `bits` on are ignored.
  *   open bit      A 1 bit. It stands for `(`.
  *   close bit     A 0 bit. It stands for `)`.
  *   position      The index of a bit in the row, from 0.
  *   E(k)          The excess: the number of open bits minus the number of close bits among the first k bits. E(0) is 0.
  *   outline       The tree that a row encodes. Each pair of matching parentheses is one outline node.
- *   handle        A position below `bits` whose bit is an open bit. It names an outline node.
+ *   handle        A position below `bits` whose bit is an open bit. If this open bit has a matching close bit, the handle
+ *                 names the outline node of this pair. The functions accept every open bit as a handle.
  *   level         The number of outline nodes around an outline node. The root has level 0.
- *   block         `block` consecutive bits of the row. The last block may be shorter.
+ *   block         The row is cut into blocks. The argument `block` is the number of bits per block: a multiple of 8 from 8
+ *                 to 65,536. The last block may be shorter. Use 512 if you have no reason for another value: the benchmark
+ *                 (docs/SPEED.md) uses it too.
  *   node buffer   An index over the row that makes searches fast. It stores a binary tree over the blocks, the min-max tree.
- *                 Each node of that tree takes three signed 64-bit entries: the total, the least and the greatest running
- *                 excess of its bits. bp_build and bpw_build write the node buffer. The other functions only read it.
+ *                 Each node of that tree covers some consecutive bits and has three signed 64-bit entries: its total excess,
+ *                 and the least and the greatest excess after any of its bits, counted from its first bit.
+ *                 bp_build and bpw_build write the node buffer. The other functions only read it.
  *
  * Example: the row `(()(()))` has 8 bits and the single word 0x1b. Its handles are 0, 1, 3 and 4.
  * The outline node 0 has the children 1 and 3. The outline node 3 has the child 4.
@@ -36,20 +64,23 @@
  *   I = P - 1, but at least 1
  *   number of entries = 3 * (L + I), or 0 if `bits` is 0
  *
- * A row of 4,096 bits needs at most 3,069 entries (for `block` = 8).
+ * For 4,096 bits, `block` = 8 needs the most entries: 3,069. An entry has eight bytes.
  *
  *
  * ARGUMENTS
  *
- *   - The order is: the row, its length, `bits`; the node buffer, its length, `block`; the function's own arguments.
- *     Functions that need no node buffer do not have its three arguments. The text readers take the text, then the row.
+ *   - The order is: the row, its length, `bits`; `nodes`, `nodes_len`, `block`; the function's own arguments.
+ *     The row is the argument `row` of a bp_ function and the argument `words` of a bpw_ function.
+ *   - Functions that need no node buffer do not have the arguments `nodes`, `nodes_len` and `block`. They are root,
+ *     first_child, is_leaf and one_tree, each with both prefixes.
+ *   - bp_read_text and bpw_read_text take `text`, `text_len`, the row and its length. They have no argument `bits`.
  *   - Each slice is a pointer followed by a length. The length counts elements of the pointer's type.
- *   - No pointer is null, not even that of an empty slice. An empty slice takes any non-null pointer.
+ *   - A pointer is never null, even if the length is 0. Then any aligned non-null pointer will do.
  *   - Each pointer is aligned for its type.
  *   - A slice that the function writes does not overlap any other slice of the same call.
  *
  * Nothing else is required of a caller. Every function accepts any content of its slices and any value of its numbers.
- * It always returns, never traps, and never accesses the caller's memory outside its slices.
+ * It never crashes and always returns. It never accesses memory of the caller outside its slices.
  *
  *
  * RETURN VALUES
@@ -58,31 +89,35 @@
  *
  *   0 or more   A position, a count, 1 for yes, 0 for no, or 0 for a successful build.
  *   -1          Nothing: there is no such position. This is a normal answer and not an error.
- *               The functions with an argument `at` also return it if `at` is not below `bits`.
- *   -1 - k      Refusal k. The function cannot answer, for the reason in this table:
+ *               A function with an argument `at` also returns -1 if `at` is not below `bits`.
+ *               A function with an argument `level` or `levels` also returns -1 if this argument is above `bits`.
+ *               In both cases the refusals 1 to 5 are tested first.
+ *   -2 to -9    Refusal k has the value -(k + 1), which is -1 - k. The function cannot answer. The table has the reasons:
  *
  *   refusal   value   reason
  *      1       -2     `block` is 0, above 65,536 or not a multiple of 8.
  *      2       -3     There are too many bits: more than 4,096 in a bp_ function, more than 2^32 in a bpw_ function.
  *      3       -4     The row has too few words. It needs bits / 64 words, rounded up.
- *      4       -5     The node buffer has too few entries. "Size of the node buffer" gives the number.
- *      5       -6     A handle argument is not a handle: it is not below `bits`, or its bit is a close bit.
+ *      4       -5     The node buffer has too few entries. "SIZE OF THE NODE BUFFER" gives the number.
+ *      5       -6     `node`, `ancestor` or `descendant` is not a handle: it is not below `bits`, or its bit is a close bit.
  *      6       -7     The text contains a byte other than `(` and `)`.
- *      7       -8     The row is not one tree. Only the program `levels` gives this refusal; no function below does.
- *      8       -9     The node buffer does not fit the row: a search met an entry outside -2^32 to 2^32, or the entries
- *                     led the search to a dead end.
+ *      7       -8     The row is not one tree. No function of this header returns this refusal; the program `levels` does.
+ *      8       -9     The node buffer does not fit the row. A search met an entry outside -2^32 to 2^32, or the entries
+ *                     announced a position that the search then did not find.
  *
- * The refusals are tested in the order 1, 2, 3, 4, 5, 8, and by the text readers in the order 2, 6, 3. The first one that
- * applies is returned. The comment of each function lists the refusals that it can return.
- * When a function refuses, all slices are unchanged.
+ * The refusals are tested in the order 1, 2, 3, 4, 5, 8. bp_read_text and bpw_read_text test them in the order 2, 6, 3.
+ * The first refusal that applies is returned. The comment of each function lists the refusals that it can return.
+ * When a function returns a refusal, all slices are unchanged.
  *
  *
- * WHEN THE ANSWERS ARE CORRECT
+ * MEMORY AND THREADS
  *
- * A node buffer is "as built" if it begins with exactly the entries that a build writes for this row, `bits` and `block`.
- * With such a buffer every function returns what its comment says, and never refusal 8.
- * With any other buffer the answer can be refusal 8 or a wrong answer. A wrong position is still below `bits`.
- * Use bp_as_built or bpw_as_built to test a node buffer that comes from elsewhere. */
+ *   - No function keeps a pointer after it returns, allocates memory or uses global state.
+ *     So calls may run in parallel on the same slices, as long as none of them writes to these slices.
+ *   - A bp_ function decodes the row and the node buffer into local arrays. It needs about 25 KB of stack for them,
+ *     bp_children and bp_rev_children about 58 KB. A bpw_ function works on the slices without a copy.
+ *   - On a little-endian machine, such as x86-64, a node buffer from bp_build has the same bytes as the int64_t array from
+ *     bpw_build for the same row, `bits` and `block`. */
 #ifndef FAAMOSELA_H
 #define FAAMOSELA_H
 
@@ -95,17 +130,18 @@ extern "C" {
 
 /* ==== Functions over byte slices, for rows of up to 4,096 bits ====
  *
- * A word of the row, an entry of the node buffer and an answer of a listing are eight bytes each. The least significant byte
- * comes first. Negative values are in two's complement. Lengths are in bytes.
- * If the length of such a slice is not a multiple of 8, the bytes after the last complete group of eight do not count.
- * A text is different: each of its bytes is one parenthesis.
+ * These items have eight bytes each: a word of the row, an entry of the node buffer, and a value that bp_children or
+ * bp_rev_children writes. The least significant byte comes first. Negative values are in two's complement.
+ * Lengths are in bytes. If the length of such a slice is not a multiple of 8, the one to seven bytes at its end are ignored.
+ * A text has one byte per parenthesis and can have any length. More than 4,096 bytes are refusal 2.
  *
- * The comments write close(i) for the answer of bp_close at the position i, and likewise for the other functions.
- * Where such an inner answer is -1 or a refusal, it is also the answer of the whole call. */
+ * The comments write close(i) for the value that bp_close returns for the position i, and likewise for the other functions.
+ * If such an inner function returns -1 or a refusal, the outer function returns the same value. */
 
 /* ---- libcapi.a ---- */
 
-/* Writes the node buffer of the row. Returns 0 on success. Bytes after the entries that the row needs are unchanged.
+/* Writes the node buffer of the row. Returns 0 on success.
+ * Only the entries that the row needs are written. All later bytes keep their value.
  * Refusals: 1, 2, 3, 4. */
 int64_t bp_build(const uint8_t *row, size_t row_len, uint64_t bits,
                  uint8_t *nodes, size_t nodes_len, uint64_t block);
@@ -116,16 +152,17 @@ int64_t bp_build(const uint8_t *row, size_t row_len, uint64_t bits,
 int64_t bp_close(const uint8_t *row, size_t row_len, uint64_t bits,
                  const uint8_t *nodes, size_t nodes_len, uint64_t block, uint64_t at);
 
-/* Returns the handle of the innermost outline node around the pair of parentheses that has a bit at `at`.
- * Returns -1 if there is none.
+/* The bit at `at` belongs to a pair of parentheses. Returns the handle of the nearest pair around that pair, or -1 if there
+ * is none.
  * Exactly: bwd_search(at, -1) if the bit at `at` is an open bit, and bwd_search(at, -2) if it is a close bit.
  * Refusals: 1, 2, 3, 4, 8. */
 int64_t bp_enclose(const uint8_t *row, size_t row_len, uint64_t bits,
                    const uint8_t *nodes, size_t nodes_len, uint64_t block, uint64_t at);
 
-/* Returns 1 if the outline node `ancestor` contains the outline node `descendant` or is the same one. Otherwise returns 0.
- * Exactly: 1 if ancestor <= descendant and descendant < close(ancestor).
- * Returns -1 if `ancestor` has no matching close bit. Both handles are tested for refusal 5.
+/* Returns 1 if the outline node `ancestor` contains the outline node `descendant`, 1 also if both are the same outline node,
+ * and otherwise 0. Returns -1 if `ancestor` has no matching close bit.
+ * Exactly: 1 if ancestor <= descendant and descendant < close(ancestor), otherwise 0.
+ * Both handles are tested for refusal 5.
  * Refusals: 1, 2, 3, 4, 5, 8. */
 int64_t bp_is_ancestor(const uint8_t *row, size_t row_len, uint64_t bits,
                        const uint8_t *nodes, size_t nodes_len, uint64_t block,
@@ -156,12 +193,12 @@ int64_t bp_open(const uint8_t *row, size_t row_len, uint64_t bits,
 int64_t bp_root(const uint8_t *row, size_t row_len, uint64_t bits);
 
 /* Returns the handle of the first child of the outline node `node`, or -1 if it has no child.
- * Exactly: node + 1 if that is the position of an open bit.
+ * Exactly: node + 1 if that is below `bits` and its bit is an open bit, otherwise -1.
  * Refusals: 2, 3, 5. */
 int64_t bp_first_child(const uint8_t *row, size_t row_len, uint64_t bits, uint64_t node);
 
-/* Returns 1 if the outline node `node` has no child, otherwise 0.
- * Exactly: 1 if node + 1 is below `bits` and is the position of a close bit.
+/* Tests whether the outline node `node` has no child.
+ * Exactly: 1 if the bit after `node` is a close bit; 0 if it is an open bit or if `node` is the last position.
  * Refusals: 2, 3, 5. */
 int64_t bp_is_leaf(const uint8_t *row, size_t row_len, uint64_t bits, uint64_t node);
 
@@ -172,29 +209,30 @@ int64_t bp_parent(const uint8_t *row, size_t row_len, uint64_t bits,
                   const uint8_t *nodes, size_t nodes_len, uint64_t block, uint64_t node);
 
 /* Returns the handle of the last child of the outline node `node`, or -1 if it has no child.
- * Exactly: open(close(node) - 1), or -1 if node + 1 is not the position of an open bit.
+ * Exactly: -1 if first_child(node) is -1, otherwise open(close(node) - 1).
  * Refusals: 1, 2, 3, 4, 5, 8. */
 int64_t bp_last_child(const uint8_t *row, size_t row_len, uint64_t bits,
                       const uint8_t *nodes, size_t nodes_len, uint64_t block, uint64_t node);
 
 /* Returns the handle of the next child of the same parent, or -1 if `node` is the last child.
- * Exactly: close(node) + 1, or -1 if that is not the position of an open bit.
+ * Exactly: close(node) + 1 if that is below `bits` and its bit is an open bit, otherwise -1.
  * Refusals: 1, 2, 3, 4, 5, 8. */
 int64_t bp_next_sibling(const uint8_t *row, size_t row_len, uint64_t bits,
                         const uint8_t *nodes, size_t nodes_len, uint64_t block, uint64_t node);
 
 /* Returns the handle of the previous child of the same parent, or -1 if `node` is the first child.
- * Exactly: open(node - 1), or -1 if node - 1 is not the position of a close bit.
+ * Exactly: open(node - 1) if `node` is above 0 and the bit at node - 1 is a close bit, otherwise -1.
  * Refusals: 1, 2, 3, 4, 5, 8. */
 int64_t bp_previous_sibling(const uint8_t *row, size_t row_len, uint64_t bits,
                             const uint8_t *nodes, size_t nodes_len, uint64_t block, uint64_t node);
 
-/* Returns the handle of the ancestor that is `level` levels above the outline node `node`, or -1 if there is none.
- * Exactly: `node` itself if `level` is 0, otherwise bwd_search(node, -level).
+/* Returns the handle of the ancestor that is `levels` levels above the outline node `node`, or -1 if there is none.
+ * Here `levels` is a distance: 0 gives `node` itself, 1 gives its parent.
+ * Exactly: `node` itself if `levels` is 0, otherwise bwd_search(node, -levels).
  * Refusals: 1, 2, 3, 4, 5, 8. */
 int64_t bp_level_ancestor(const uint8_t *row, size_t row_len, uint64_t bits,
                           const uint8_t *nodes, size_t nodes_len, uint64_t block,
-                          uint64_t node, uint64_t level);
+                          uint64_t node, uint64_t levels);
 
 /* Returns the handle of the next outline node on the level of `node`, or -1 if there is none.
  * Exactly: fwd_search(close(node), 1).
@@ -215,7 +253,7 @@ int64_t bp_level_leftmost(const uint8_t *row, size_t row_len, uint64_t bits,
                           const uint8_t *nodes, size_t nodes_len, uint64_t block, uint64_t level);
 
 /* Returns the handle of the last outline node on the level `level`, or -1 if there is none.
- * Exception: for level 0 it returns -1 if the root has no child.
+ * Exception: if the root has no child, it returns -1 for level 0, although the root is on level 0.
  * Exactly: open(bwd_search(2 * ones - 1, level)), where `ones` is the number of open bits, or -1 if `ones` is 0.
  * Refusals: 1, 2, 3, 4, 8. */
 int64_t bp_level_rightmost(const uint8_t *row, size_t row_len, uint64_t bits,
@@ -226,40 +264,53 @@ int64_t bp_level_rightmost(const uint8_t *row, size_t row_len, uint64_t bits,
  * Refusals: 2, 3. */
 int64_t bp_one_tree(const uint8_t *row, size_t row_len, uint64_t bits);
 
-/* Returns 1 if the node buffer begins with exactly the entries that bp_build writes for this row, otherwise 0.
+/* Returns 1 if the node buffer begins with exactly the entries that bp_build writes for this row, `bits` and `block`.
+ * Otherwise returns 0.
  * Refusals: 1, 2, 3, 4. */
 int64_t bp_as_built(const uint8_t *row, size_t row_len, uint64_t bits,
                     const uint8_t *nodes, size_t nodes_len, uint64_t block);
 
 /* Converts a text of parentheses to a row: each `(` becomes an open bit, each `)` a close bit.
- * Returns the number of bits, which is text_len. Unused bits of the last word that is written are 0.
- * Bytes of `row` after the words that the bits need are unchanged.
+ * Returns the number of bits, which is text_len. The row needs room for text_len / 64 words, rounded up.
+ * Only the words that the bits need are written. All later bytes keep their value.
+ * Unused bits of the last written word are 0.
  * Refusals: 2, 6, 3, tested in this order. */
 int64_t bp_read_text(const uint8_t *text, size_t text_len, uint8_t *row, size_t row_len);
 
 /* Writes the handles of the children of the outline node `node` to `out`, from the first to the last, and then -1.
- * Returns the number of values written.
- * Stops early if `out` has no room for eight more bytes. Bytes after the values are unchanged.
- * If the search for the next child refuses with k, the value -1 - k is written next, and then -1. This happens only if the
- * node buffer is not as built. The refusal k is 8, or in bp_rev_children also 5.
- * Refusals that are returned instead of a number, with `out` unchanged: 1, 2, 3, 4, 5. */
+ * Returns the number of values that it writes. This count includes the final -1 and a written refusal.
+ * Stops when `out` is full; the final -1 is then missing. Bytes after the written values keep their value.
+ * Size of `out`: 8 * (bits + 2) bytes always suffice. With a node buffer as built, one value per child and the final -1
+ * are enough.
+ *
+ * Returned refusals, with no value written: 1, 2, 3, 4, 5, for wrong arguments. Refusal 8 is never returned, because the
+ * first child needs no search.
+ * Written refusal, followed by the final -1: 8, as the value -9, if the search for the next child refuses. This happens
+ * only if the node buffer is not as built. */
 int64_t bp_children(const uint8_t *row, size_t row_len, uint64_t bits,
                     const uint8_t *nodes, size_t nodes_len, uint64_t block,
                     uint64_t node, uint8_t *out, size_t out_len);
 
 /* Writes the handles of the children of the outline node `node` to `out`, from the last to the first, and then -1.
- * Returns the number of values written. In all other respects it works like bp_children.
- * Refusals that are returned instead of a number, with `out` unchanged: 1, 2, 3, 4, 5, 8. */
+ * The returned count, the end of the writing and the size of `out` are as for bp_children.
+ *
+ * Returned refusals, with no value written: 1, 2, 3, 4, 5, for wrong arguments, and 8 if the search for the last child
+ * refuses.
+ * Written refusals, followed by the final -1:
+ *   8, as the value -9, if the search for the previous child refuses;
+ *   5, as the value -6, if the value written before it is the position of a close bit.
+ * Refusal 8 and the written refusal 5 occur only if the node buffer is not as built. */
 int64_t bp_rev_children(const uint8_t *row, size_t row_len, uint64_t bits,
                         const uint8_t *nodes, size_t nodes_len, uint64_t block,
                         uint64_t node, uint8_t *out, size_t out_len);
 
 /* ==== Functions over words and entries, for rows of up to 2^32 bits. All are in libprobe.a ====
  *
- * bpw_NAME returns what bp_NAME returns, except that refusal 2 starts above 2^32 bits. The comment of bp_NAME has the exact
- * condition. Lengths are in words and entries. The functions work on the slices directly, without a copy. */
+ * bpw_NAME returns what bp_NAME returns, except that refusal 2 starts above 2^32 bits. The line `Exactly` of bp_NAME holds
+ * for both. Lengths are in words and entries. The functions work on the slices directly, without a copy. */
 
-/* Writes the node buffer of the row. Returns 0 on success. Elements after the entries that the row needs are unchanged.
+/* Writes the node buffer of the row. Returns 0 on success.
+ * Only the entries that the row needs are written. All later elements keep their value.
  * Refusals: 1, 2, 3, 4. */
 int64_t bpw_build(const uint64_t *words, size_t words_len, uint64_t bits,
                   int64_t *nodes, size_t nodes_len, uint64_t block);
@@ -269,14 +320,15 @@ int64_t bpw_build(const uint64_t *words, size_t words_len, uint64_t bits,
 int64_t bpw_close(const uint64_t *words, size_t words_len, uint64_t bits,
                   const int64_t *nodes, size_t nodes_len, uint64_t block, uint64_t at);
 
-/* Returns the handle of the innermost outline node around the pair of parentheses that has a bit at `at`.
- * Returns -1 if there is none.
+/* The bit at `at` belongs to a pair of parentheses. Returns the handle of the nearest pair around that pair, or -1 if there
+ * is none.
  * Refusals: 1, 2, 3, 4, 8. */
 int64_t bpw_enclose(const uint64_t *words, size_t words_len, uint64_t bits,
                     const int64_t *nodes, size_t nodes_len, uint64_t block, uint64_t at);
 
-/* Returns 1 if the outline node `ancestor` contains the outline node `descendant` or is the same one. Otherwise returns 0.
- * Returns -1 if `ancestor` has no matching close bit. Both handles are tested for refusal 5.
+/* Returns 1 if the outline node `ancestor` contains the outline node `descendant`, 1 also if both are the same outline node,
+ * and otherwise 0. Returns -1 if `ancestor` has no matching close bit.
+ * Both handles are tested for refusal 5.
  * Refusals: 1, 2, 3, 4, 5, 8. */
 int64_t bpw_is_ancestor(const uint64_t *words, size_t words_len, uint64_t bits,
                         const int64_t *nodes, size_t nodes_len, uint64_t block,
@@ -307,7 +359,8 @@ int64_t bpw_root(const uint64_t *words, size_t words_len, uint64_t bits);
  * Refusals: 2, 3, 5. */
 int64_t bpw_first_child(const uint64_t *words, size_t words_len, uint64_t bits, uint64_t node);
 
-/* Returns 1 if the outline node `node` has no child, otherwise 0.
+/* Tests whether the outline node `node` has no child. Returns 1 if the bit after `node` is a close bit.
+ * Returns 0 if that bit is an open bit or if `node` is the last position.
  * Refusals: 2, 3, 5. */
 int64_t bpw_is_leaf(const uint64_t *words, size_t words_len, uint64_t bits, uint64_t node);
 
@@ -331,12 +384,12 @@ int64_t bpw_next_sibling(const uint64_t *words, size_t words_len, uint64_t bits,
 int64_t bpw_previous_sibling(const uint64_t *words, size_t words_len, uint64_t bits,
                              const int64_t *nodes, size_t nodes_len, uint64_t block, uint64_t node);
 
-/* Returns the handle of the ancestor that is `level` levels above the outline node `node`, or -1 if there is none.
- * Returns `node` itself if `level` is 0.
+/* Returns the handle of the ancestor that is `levels` levels above the outline node `node`, or -1 if there is none.
+ * Here `levels` is a distance: 0 gives `node` itself, 1 gives its parent.
  * Refusals: 1, 2, 3, 4, 5, 8. */
 int64_t bpw_level_ancestor(const uint64_t *words, size_t words_len, uint64_t bits,
                            const int64_t *nodes, size_t nodes_len, uint64_t block,
-                           uint64_t node, uint64_t level);
+                           uint64_t node, uint64_t levels);
 
 /* Returns the handle of the next outline node on the level of `node`, or -1 if there is none.
  * Refusals: 1, 2, 3, 4, 5, 8. */
@@ -354,7 +407,7 @@ int64_t bpw_level_leftmost(const uint64_t *words, size_t words_len, uint64_t bit
                            const int64_t *nodes, size_t nodes_len, uint64_t block, uint64_t level);
 
 /* Returns the handle of the last outline node on the level `level`, or -1 if there is none.
- * Exception: for level 0 it returns -1 if the root has no child.
+ * Exception: if the root has no child, it returns -1 for level 0, although the root is on level 0.
  * Refusals: 1, 2, 3, 4, 8. */
 int64_t bpw_level_rightmost(const uint64_t *words, size_t words_len, uint64_t bits,
                             const int64_t *nodes, size_t nodes_len, uint64_t block, uint64_t level);
@@ -363,28 +416,32 @@ int64_t bpw_level_rightmost(const uint64_t *words, size_t words_len, uint64_t bi
  * Refusals: 2, 3. */
 int64_t bpw_one_tree(const uint64_t *words, size_t words_len, uint64_t bits);
 
-/* Returns 1 if the node buffer begins with exactly the entries that bpw_build writes for this row, otherwise 0.
+/* Returns 1 if the node buffer begins with exactly the entries that bpw_build writes for this row, `bits` and `block`.
+ * Otherwise returns 0.
  * Refusals: 1, 2, 3, 4. */
 int64_t bpw_as_built(const uint64_t *words, size_t words_len, uint64_t bits,
                      const int64_t *nodes, size_t nodes_len, uint64_t block);
 
 /* Converts a text of parentheses to a row: each `(` becomes an open bit, each `)` a close bit.
- * Returns the number of bits, which is text_len. Unused bits of the last word that is written are 0.
- * Words after those that the bits need are unchanged.
+ * Returns the number of bits, which is text_len. The row needs room for text_len / 64 words, rounded up.
+ * Only the words that the bits need are written. All later words keep their value.
+ * Unused bits of the last written word are 0.
  * Refusals: 2, 6, 3, tested in this order. */
 int64_t bpw_read_text(const uint8_t *text, size_t text_len, uint64_t *words, size_t words_len);
 
 /* Writes the handles of the children of the outline node `node` to `out`, from the first to the last, and then -1.
- * Returns the number of values written.
- * Stops early if `out` is full. Entries after the values are unchanged. Refusals of a search are written as in bp_children.
- * Refusals that are returned instead of a number, with `out` unchanged: 1, 2, 3, 4, 5. */
+ * Returns the number of values that it writes. This count includes the final -1 and a written refusal.
+ * Stops when `out` is full; the final -1 is then missing. Elements after the written values keep their value.
+ * Size of `out`: bits + 2 elements always suffice. With a node buffer as built, one element per child and one for the
+ * final -1 are enough.
+ * Returned refusals: 1, 2, 3, 4, 5. Written refusal: 8. The cases are those of bp_children. */
 int64_t bpw_children(const uint64_t *words, size_t words_len, uint64_t bits,
                      const int64_t *nodes, size_t nodes_len, uint64_t block,
                      uint64_t node, int64_t *out, size_t out_len);
 
 /* Writes the handles of the children of the outline node `node` to `out`, from the last to the first, and then -1.
- * Returns the number of values written. In all other respects it works like bpw_children.
- * Refusals that are returned instead of a number, with `out` unchanged: 1, 2, 3, 4, 5, 8. */
+ * The returned count, the end of the writing and the size of `out` are as for bpw_children.
+ * Returned refusals: 1, 2, 3, 4, 5, 8. Written refusals: 5, 8. The cases are those of bp_rev_children. */
 int64_t bpw_rev_children(const uint64_t *words, size_t words_len, uint64_t bits,
                          const int64_t *nodes, size_t nodes_len, uint64_t block,
                          uint64_t node, int64_t *out, size_t out_len);

@@ -1,6 +1,11 @@
--- Lines put on a page one after another: what stands on it so far, and what is still to come.
---   leads-all, leads-on, leads-end: all is to come, the next text, no more; found-on, nothing-end, refused-end: by what a call answers
---   level-whole, next-asked, next-found, next-spent: a level; levels-start, level-asked, level-found, level-spent: the levels; tree-whole: the page
+-- Lines that are put on a page one after another: what is on the page so far, and what is still to come.
+--   Leads: once the rest is put, the whole is on the page
+--   leads-all, leads-on, leads-end: nothing is put yet; a text is put; nothing is left
+--   found-on, nothing-end, refused-end: the same by the answer of a call
+--   next-is, next-none, levels-is, levels-none: one step of the definitions of the lines
+--   level-whole, next-asked, next-found, next-spent: the lines of a level
+--   levels-start, level-asked, level-found, level-spent: the lines of the levels
+--   tree-whole: the page
 -- Assumes nothing.
 use mathlib.Core.Path.{_≡_, refl, _∙_}
 use mathlib.Core.List.{List, [], _∷_, _++_}
@@ -18,7 +23,8 @@ use Rattle.app_page.proofs.Pages.{adds-nothing, adds-then}
 use Rattle.app_levels.specs.Shown.{refusalLine, nodeLine}
 use Rattle.app_levels.specs.Levels.{linesFor, nextLines, levelLines, levelsLines, treeLines}
 
--- the page is as long as the old one, and once the rest stands behind its first m bytes, the whole stands behind the old one's first a
+-- `page` has the length of `old`. If `rest` is added after the first m bytes of `page`, then `whole` is added after the first a bytes of
+-- `old`.
 pub record Leads (old : List ℕ) (a : ℕ) (whole page : List ℕ) (m : ℕ) (rest : List ℕ) : Type 0 where
   pub long : length page ≡ length old
   pub leads : (new : List ℕ) (r : ℕ) → Adds page m rest new r → Adds old a whole new r
@@ -37,7 +43,7 @@ module _ (old : List ℕ) (a : ℕ) (whole page : List ℕ) (m : ℕ) where
     leads = λ new r two. h .leads new r (adds-then page page' new t u m m' r e one two);
   }
 
-  -- what a call answers, and the lines for it
+  -- The lines that follow from the answer x of a call.
   pub found-on : (x : Answer) (t u : ℕ → List ℕ) (w : ℕ) (page' : List ℕ) (m' : ℕ) → x ≡ at w → length page' ≡ length page
       → Leads old a whole page m (linesFor x (λ v. t v ++ u v)) → Adds page m (t w) page' m' → Leads old a whole page' m' (u w)
   found-on x t u w page' m' q e h one = leads-on (t w) (u w) page' m' e (rw q at h) one
@@ -71,14 +77,14 @@ module _ (ws : List ℕ) (n : ℕ) (s : List ℤ) (k : ℕ) where
   unfolding levelsLines
   levels-none h = let e : n - k ≡ 0 = omega (arith, h) in rw e refl
 
-  -- the first line of a level, then the rest
+  -- The first line of a level, then its other lines.
   pub level-whole : (old page new : List ℕ) (a v m r : ℕ) → length page ≡ length old → Adds old a (nodeLine ws n s k v) page m
       → Adds page m (nextLines ws n s k n v) new r → Adds old a (levelLines ws n s k v) new r
   unfolding levelLines
   level-whole old page new a v m r e one two = adds-then old page new (nodeLine ws n s k v) (nextLines ws n s k n v) a m r e one two
 
   module _ (old : List ℕ) (a : ℕ) (whole page : List ℕ) (m : ℕ) where
-    -- what comes on a level after v
+    -- The lines after the line of v on its level.
     module _ (f v : ℕ) (h : Leads old a whole page m (nextLines ws n s k f v)) where
       pub next-asked : 0 < f
           → Leads old a whole page m (linesFor (nodeAnswer levelNext ws n s 64 v) (λ w. nodeLine ws n s k w ++ nextLines ws n s k (f - 1) w))
@@ -92,7 +98,7 @@ module _ (ws : List ℕ) (n : ℕ) (s : List ℤ) (k : ℕ) where
       pub next-spent : f ≤ 0 → Adds old a whole page m
       next-spent l = leads-end old a whole page m (rw (next-none f v l) at h)
 
-    -- what comes from level k on
+    -- The lines from level k on.
     module _ (h : Leads old a whole page m (levelsLines ws n s k (n - k))) where
       pub level-asked : k < n
           → Leads old a whole page m
@@ -111,7 +117,7 @@ module _ (ws : List ℕ) (n : ℕ) (s : List ℤ) (old : List ℕ) (a : ℕ) whe
   pub levels-start : Leads old a (levelsLines ws n s 0 n) old a (levelsLines ws n s 0 (n - 0))
   levels-start = let e : n - 0 ≡ n = omega arith in rw e (leads-all old a (levelsLines ws n s 0 n))
 
-  -- the two cells of the first line, then the levels
+  -- The two numbers of the first line, then the levels.
   pub tree-whole : (half line new : List ℕ) (m i r : ℕ) → length half ≡ length old → length line ≡ length half
       → Adds old a (decimalOf (n / 2) ++ (32 ∷ [])) half m → Adds half m (decimalOf n ++ (10 ∷ [])) line i
       → Adds line i (levelsLines ws n s 0 n) new r → Adds old a (treeLines ws n s) new r

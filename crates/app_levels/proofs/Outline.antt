@@ -1,6 +1,10 @@
--- On one tree whose answers are the definitions' the lines that are put are those of document 01's page (demand 3).
---   chain: what level_next names is put line by line; deeper, deepest: below a level without nodes there is none
---   levels-are, tree-is: the levels from k on, and the page
+-- On a row that is one tree, the lines that the program puts are those of the page by definition, if every answer equals its definition.
+-- This uses demand 3.
+--   lines-same: the lines of a list by two equal rules
+--   none-under, deeper, deepest: below an empty level every level is empty
+--   chain: the outline nodes that `level_next` names are put line by line
+--   those-few: at most c of c numbers pass a test
+--   line-is, level-is, levels-are, tree-is: a line, a level, the levels from k on, the page
 -- Assumes nothing.
 use mathlib.Core.Path.{_≡_, refl, sym, ap, _∙_}
 use mathlib.Core.Bool.{Bool, true, false}
@@ -34,9 +38,9 @@ lines-same : (f g : ℕ → List ℕ) → ((v : ℕ) → f v ≡ g v) → (l : L
 lines-same f g e [] = refl
 lines-same f g e (v ∷ l) = rw (e v, lines-same f g e l)
 
--- ---- below a level without nodes there is none
+-- ---- below an empty level every level is empty
 module _ (ws : List ℕ) (n : ℕ) (t : OneTree ws n) where
-  -- a node of the next level would have its parent on this one
+  -- An outline node on level k + 1 would have its parent on level k.
   none-under : (k : ℕ) → level ws n k ≡ [] → (w : ℕ) → Stands ws n (pos (suc k)) w → ⊥
   none-under k e w s = elim (decLt 0 w) [
     | yes l ↦ let (u, p) = parent-of ws n t w (s .open-is) l in
@@ -56,7 +60,7 @@ module _ (ws : List ℕ) (n : ℕ) (t : OneTree ws n) where
   deepest zero k e = refl
   deepest (suc f) k e = rw e (deepest f (suc k) (deeper k e))
 
--- ---- what level_next names
+-- ---- the outline nodes that `level_next` names
 module _ (ws : List ℕ) (n : ℕ) (s : List ℤ) (k : ℕ) where
   chain : (l : List ℕ) (f v : ℕ) → Names (promised ws n s 64) LevelNext (LevelNext v) l → length l ≤ f
       → nextLines ws n s k f v ≡ linesOf (nodeLine ws n s k) l
@@ -66,7 +70,7 @@ module _ (ws : List ℕ) (n : ℕ) (s : List ℤ) (k : ℕ) where
   chain (w ∷ l) zero v h m = absurd (omega (arith, m))
   chain (w ∷ l) (suc f) v h m = rw (h .0) (ap (λ (x : List ℕ). nodeLine ws n s k w ++ x) (chain l f w (h .1) (omega (arith, m))))
 
--- ---- the numbers below n that pass a test are n at most
+-- ---- at most c of c numbers pass a test
 those-few : (p : ℕ → Bool) (c a : ℕ) → length (those p c a) ≤ c
 unfolding those
 those-few p zero a = omega arith

@@ -1,7 +1,8 @@
--- What is printed, from what the input holds.
---   outcome, input-taken: a line that is not refused has at most 4,096 bits and is one tree
---   room-for, not-refused: so its nodes are built; built-lines: and the lines over them are document 01's page
---   printed-tree, printed-refused: the page of the tree, and the line of a refusal; printed-fits: the page has room for it
+-- What is printed, from what the input encodes.
+--   Outcome, outcome, input-taken: an input that is not refused has at most 4,096 bits and is one tree
+--   few-nodes, room-for, not-refused: so its build is not refused; built-lines: and the lines over its nodes are the page by definition
+--   printed-tree, printed-refused: the page of a tree, and the line of a refusal
+--   printed-fits: all output fits into 65,536 bytes
 -- Assumes nothing.
 use mathlib.Core.Path.{_≡_, refl, ap}
 use mathlib.Core.Bool.{Bool, true, false}
@@ -29,18 +30,13 @@ use Rattle.app_line.proofs.Line.{words-read}
 use Rattle.app_levels.specs.Shown.{refusedText, refusalLine}
 use Rattle.app_levels.specs.Levels.{linesFor, treeLines}
 use Rattle.app_levels.specs.Outline.{definedLines}
-use Rattle.app_levels.specs.Printed.{blankWords, printed, pageBytes}
+use Rattle.app_levels.specs.Printed.{blankWords, printed, pageBytes, ShortTree}
 use Rattle.app_levels.proofs.Outline.{tree-is}
 use Rattle.app_levels.proofs.Room.{refusal-fits, page-fits}
 
--- what a line is that is not refused
-pub record Taken (s ws : List ℕ) (n : ℕ) : Type 0 where
-  pub short : n ≤ maxShortBits
-  pub tree : OneTree (lineWords s ws) n
-
--- a line is taken, or refused by a number of one digit
+-- An input is accepted, or refused by a number of one digit.
 abbrev Outcome : List ℕ → List ℕ → Answer → Type 0
-Outcome s ws (at n) = Taken s ws n
+Outcome s ws (at n) = ShortTree (lineWords s ws) n
 Outcome s ws nothing = Unit
 Outcome s ws (refused k) = k < 10
 
@@ -58,10 +54,10 @@ outcome s ws = by (leb (lineEnd s) maxShortBits) refl (allParentheses (line s)) 
     by true p false q c o = rw (p, q) (omega arith)
     by false p b q c o = rw p (omega arith)
 
-pub input-taken : (s ws : List ℕ) (n : ℕ) → at n ≡ inputAnswer s ws → Taken s ws n
+pub input-taken : (s ws : List ℕ) (n : ℕ) → at n ≡ inputAnswer s ws → ShortTree (lineWords s ws) n
 input-taken s ws n h = rw (← h) at (outcome s ws)
 
--- 64 leaves and 63 nodes above them
+-- At most 64 block leaves and 63 inner nodes, with three entries each.
 few-nodes : (n : ℕ) → n ≤ maxShortBits → width * count n 64 ≤ 381
 unfolding layoutOf leaves
 few-nodes n h = by (eqb n 0) refl
@@ -83,7 +79,7 @@ room-for ws n w h = record {
 pub not-refused : (ws : List ℕ) (n k : ℕ) → length ws ≡ 64 → n ≤ maxShortBits → refused k ≡ through (nodesGate (length ws) n 381 64) (at 0) → ⊥
 not-refused ws n k w h q = let e : _≡_ {A = ℕ} 0 1 = cc (fine-gate (length ws) n 381 64 (room-for ws n w h), q) in omega (arith, e)
 
--- over the nodes that the program builds the answers are the definitions'
+-- Over the nodes that the program builds, the lines are those of the page by definition.
 pub built-lines : (ws : List ℕ) (n : ℕ) → length ws ≡ 64 → n ≤ maxShortBits → OneTree ws n
     → treeLines ws n (builtNodes ws n (replicate 381 (pos 0)) 64) ≡ definedLines ws n
 built-lines ws n w h t =
@@ -100,7 +96,7 @@ module _ (s : List ℕ) where
   unfolding printed
   printed-refused k h = ap (λ a. linesFor a (definedLines (lineWords s blankWords))) h
 
-  -- nothing that is printed is longer than a page of 65,536 bytes
+  -- All output fits on a page of 65,536 bytes.
   pub printed-fits : length (printed s) ≤ pageBytes
   unfolding printed
   printed-fits = by (inputAnswer s blankWords) (outcome s blankWords)

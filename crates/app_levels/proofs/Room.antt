@@ -1,7 +1,12 @@
--- How long the page is: 30 bytes a line at most, and a line for each open bit, of which a tree of n bits has n / 2.
---   decimal-fits, answer-fits, line-fits: a number below 10^k, an answer, a line; lines-fit, levels-fit: lines one after another
---   hit, hits, tally: the levels on which a position stands, and all nodes of some levels; tally-few: they are no more than the open bits
---   opens-ones, tree-half: which are half of the bits; page-fits: the page
+-- The page fits into 65,536 bytes. Each outline node has one line, and a tree of n bits has n / 2 outline nodes. A line has at most 20 bytes.
+-- The proof bounds it by 30, because it does not rule out a refusal as close and as parent.
+--   places-least, digits-length, decimal-fits: a number below 10^k has at most k digits
+--   refusal-fits, answer-fits: the text of a refusal and of an answer; cell-fits, joined, short: parts of a line; line-fits: a line
+--   lines-fit, levels-fit: the lines of a list, and of some levels
+--   hit, hits, hits-past, hits-few: a position is on at most one level, and only if its bit is open
+--   those-next, those-none, tally, tally-none, tally-next, tally-few: so all levels together have at most as many outline nodes as open bits
+--   opens-bit, opens-ones, tree-half: the open bits of one tree are half of its bits
+--   page-fits: the page
 -- Assumes nothing.
 use mathlib.Core.Path.{_≡_, refl, ap, _∙_}
 use mathlib.Core.Logic.{⊎-elim}
@@ -67,7 +72,7 @@ answer-fits b h (at x) m = omega (arith, decimal-fits x 4 (omega (arith, m, h)) 
 answer-fits b h nothing m = omega arith
 answer-fits b h (refused k) m = let e = List·Memᴰ·eq-of-singleton m in refusal-fits k (omega (arith, e))
 
--- a text and the byte behind it
+-- A text and the byte after it.
 cell-fits : (t : List ℕ) (b m : ℕ) → length t ≤ m → length (t ++ (b ∷ [])) ≤ m + 1
 cell-fits t b m h = omega (arith, h, length-append t (b ∷ []))
 
@@ -90,7 +95,7 @@ module _ (ws : List ℕ) (n : ℕ) (few : n ≤ maxShortBits) where
       let rest = joined (answerText close ++ (32 ∷ [])) _ 10 10 three four in
       joined (decimalOf k ++ (32 ∷ [])) _ 5 25 one (joined (decimalOf v ++ (32 ∷ [])) _ 5 20 two rest)
 
-  -- the lines of those of the c positions from a on that pass a test
+  -- The lines of the positions that pass a test, among the c positions from a on.
   lines-fit : (k : ℕ) (p : ℕ → Bool) (c a : ℕ) → k < n → a + c ≤ n → length (linesOf (definedLine ws n k) (those p c a)) ≤ 30 * length (those p c a)
   unfolding those
   lines-fit k p zero a h l = omega arith
@@ -120,12 +125,12 @@ unfolding those
 those-none p a = refl
 
 module _ (ws : List ℕ) (n : ℕ) where
-  -- on how many of the f levels from k on position a stands
+  -- The number of levels that have position a, among the f levels from k on.
   hits : ℕ → ℕ → ℕ → ℕ
   hits a k zero = 0
   hits a k (suc f) = hit (atDepth ws n (pos k) a) + hits a (suc k) f
 
-  -- the nodes of the f levels from k on, among the c positions from a on
+  -- The number of outline nodes on the f levels from k on, among the c positions from a on.
   tally : ℕ → ℕ → ℕ → ℕ → ℕ
   tally c a k zero = 0
   tally c a k (suc f) = length (those (atDepth ws n (pos k)) c a) + tally c a (suc k) f
@@ -137,7 +142,7 @@ module _ (ws : List ℕ) (n : ℕ) where
       let z = not-depth ws n (pos k) a (λ s. omega (zsum, e, s .deep)) in
       rw z (omega (arith, hits-past a j (suc k) f e (omega (arith, h))))
 
-  -- no more than on one, and only an open bit
+  -- A position is on at most one level, and only if its bit is open.
   hits-few : (a k f : ℕ) → hits a k f ≤ hit (opens ws n a)
   unfolding hits
   hits-few a k zero = omega arith

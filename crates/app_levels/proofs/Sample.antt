@@ -1,4 +1,4 @@
--- Document 01's example, computed.
+-- The examples of SCOPE, The program `levels`, by computation.
 --   prints-five-lines: what `(()(()))` prints; prints-a-refusal: an empty input prints `refused 7`
 -- Assumes nothing.
 use mathlib.Core.Path.{_≡_, refl}

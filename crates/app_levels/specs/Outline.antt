@@ -1,4 +1,5 @@
--- The page in document 01's words: the first line, nodes and bits; then a line for each node, by level from the left: level, open, close, parent.
+-- SCOPE, The program `levels`: the page by definition. The first line has the number of outline nodes and the number of bits. Each further
+-- line has one outline node: level, open position, close position, parent. The lines go by level, and within a level from the left.
 -- Assumes nothing.
 use mathlib.Core.List.{List, [], _∷_, _++_}
 use Prim.Native.Nat.{ℕ, zero, suc, _/_}
@@ -8,21 +9,21 @@ use Rattle.demands.specs.Handles.{level}
 use Rattle.app_page.specs.Page.{decimalOf}
 use Rattle.app_levels.specs.Shown.{lineOf}
 
--- the lines of the nodes in a list, one after another
+-- The lines of the outline nodes in a list, one after another.
 abbrev pub linesOf : (ℕ → List ℕ) → List ℕ → List ℕ
 linesOf line [] = []
 linesOf line (v ∷ l) = line v ++ linesOf line l
 
 module _ (ws : List ℕ) (n : ℕ) where
-  -- a node's line, its close and its parent by definition
+  -- The line of the outline node v on level k, with its close and its parent by definition.
   unfoldable pub definedLine : ℕ → ℕ → List ℕ
   definedLine k v = lineOf k v (definition ws n (Close v)) (definition ws n (Parent v))
 
-  -- the lines of the f levels from k on: of each level exactly its nodes, rising
+  -- The lines of the f levels from k on. Each level lists exactly its outline nodes, from the left.
   unfoldable pub definedLevels : ℕ → ℕ → List ℕ
   definedLevels k zero = []
   definedLevels k (suc f) = linesOf (definedLine k) (level ws n k) ++ definedLevels (suc k) f
 
-  -- the page; n bits have n levels at most
+  -- The page. A row of n bits has at most n levels.
   unfoldable pub definedLines : List ℕ
   definedLines = (decimalOf (n / 2) ++ (32 ∷ [])) ++ ((decimalOf n ++ (10 ∷ [])) ++ definedLevels 0 n)

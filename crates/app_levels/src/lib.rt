@@ -1,14 +1,14 @@
-// The program `levels` but for its main: it reads one tree as parentheses and prints its nodes, level by level from the left. The line
-// is read by the crate `line` and the bytes are put on a page by the crate `page`; here is what stands on it.
+// The program `levels` without its `main`: reads one tree as parentheses and prints its outline nodes level by level, each from the left.
+// `app_line` reads the line, and `app_page` has the page that collects the output. This crate defines the printed lines.
 //
-// The input is read once, up to its end or until 4,097 bytes are there. What stands before the first newline is the text.
-// A refusal prints one line: 2 for over 4,096 parentheses, 6 for a byte that is none, 7 for a row that is not one tree.
+// One call reads the input, until it ends or until 4,097 bytes are read. The text is everything before the first newline.
+// A refusal prints one line: 2 for more than 4,096 parentheses, 6 for a byte that is no parenthesis, 7 for a row that is not one tree.
 mod print;
 mod whole;
 
 use libc::STDOUT_FILENO;
 
-// The size of a page in bytes. Every page fits: at most 2,048 lines of at most 30 bytes each.
+// The size of a page in bytes. All output fits: the first line and at most 2,048 lines of outline nodes, of at most 20 bytes each.
 const PAGE: usize = 65536;
 
 fn write_page(page: &[u8], at: usize) {
@@ -22,7 +22,7 @@ fn answer(bytes: &[u8]) {
     write_page(&page, at);
 }
 
-// Reads from fd, and prints to standard output. `levels` gives standard input; the cases that are run beside it give files.
+// Reads from the file descriptor `fd` and prints to standard output. `levels` passes standard input, `test_inputs` passes files.
 pub fn run(fd: i32) {
     let mut bytes = [0; 4097];
     let count = io::read_full(fd, &mut bytes);

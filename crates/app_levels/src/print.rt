@@ -1,4 +1,4 @@
-// The lines that are printed.
+// Puts the printed lines on a page. Each function answers how many bytes of the page are then filled.
 ghost use mathlib.Core.List.{[], _∷_, _++_};
 ghost use Rattle.row.specs.Answer.{numberOf, paperFound};
 ghost use Rattle.app_page.specs.Page.{Adds, decimalOf};
@@ -10,7 +10,7 @@ use app_page::put_text;
 use row::Found;
 use row::Refusal;
 
-// As `refused 7`.
+// Puts a refusal without the end of its line, for example `refused 7`.
 fn put_refused(page: &mut [u8], at: usize, k: Refusal) -> usize
     ensures { λ r. ⌜ Adds (now (page .entry)) at (refusedText (numberOf k)) (now (page .exit)) r ⌝ }
 {
@@ -18,6 +18,7 @@ fn put_refused(page: &mut [u8], at: usize, k: Refusal) -> usize
     put_number(page, next, row::number(k))
 }
 
+// Puts the line of a refusal.
 pub fn put_refusal(page: &mut [u8], at: usize, k: Refusal) -> usize
     ensures { λ r. ⌜ Adds (now (page .entry)) at (refusalLine (numberOf k)) (now (page .exit)) r ⌝ }
 {
@@ -25,7 +26,7 @@ pub fn put_refusal(page: &mut [u8], at: usize, k: Refusal) -> usize
     put(page, next, b'\n')
 }
 
-// A number and the byte behind it.
+// Puts a number and the byte after it.
 fn put_cell(page: &mut [u8], at: usize, n: u64, behind: u8) -> usize
     ensures { λ r. ⌜ Adds (now (page .entry)) at (decimalOf n ++ (behind ∷ [])) (now (page .exit)) r ⌝ }
 {
@@ -33,7 +34,7 @@ fn put_cell(page: &mut [u8], at: usize, n: u64, behind: u8) -> usize
     put(page, next, behind)
 }
 
-// A position, or `-` for nothing. The nodes are as built, so no refusal comes; if one did, it would show.
+// Puts a position, `-` for nothing, or a refusal. Over nodes as built no call is refused; over foreign nodes the refusal is printed.
 fn put_found(page: &mut [u8], at: usize, f: Found) -> usize
     ensures { λ r. ⌜ Adds (now (page .entry)) at (answerText (paperFound f)) (now (page .exit)) r ⌝ }
 {
@@ -44,6 +45,7 @@ fn put_found(page: &mut [u8], at: usize, f: Found) -> usize
     }
 }
 
+// Puts an answer and the byte after it.
 fn put_end(page: &mut [u8], at: usize, f: Found, behind: u8) -> usize
     ensures { λ r. ⌜ Adds (now (page .entry)) at (answerText (paperFound f) ++ (behind ∷ [])) (now (page .exit)) r ⌝ }
 {
@@ -51,7 +53,7 @@ fn put_end(page: &mut [u8], at: usize, f: Found, behind: u8) -> usize
     put(page, next, behind)
 }
 
-// Level, open, close, parent.
+// Puts the line of the outline node v: level, open position, close position, parent.
 fn put_node(
     words: &[u64],
     n: usize,
@@ -69,7 +71,7 @@ fn put_node(
     put_end(page, parent_at, bp::parent(words, n, nodes, 64, v), b'\n')
 }
 
-// The nodes of a level, from the first one on. A level has at most n.
+// Puts the lines of a level, from its first outline node on. A level has at most n lines after its first one.
 fn put_level(
     words: &[u64],
     n: usize,
@@ -102,7 +104,7 @@ fn put_level(
     next
 }
 
-// The levels one after another, from 0 on. There are at most n.
+// Puts the levels one after another, from 0 on. A page has at most n levels.
 fn put_levels(words: &[u64], n: usize, nodes: &[i64], page: &mut [u8], at: usize) -> usize
     ensures { λ r. ⌜ Adds (now (page .entry)) at (levelsLines (now (words .entry)) n (now (nodes .entry)) 0 n) (now (page .exit)) r ⌝ }
 {
@@ -125,7 +127,7 @@ fn put_levels(words: &[u64], n: usize, nodes: &[i64], page: &mut [u8], at: usize
     next
 }
 
-// The first line, nodes and bits, and then the levels.
+// Puts the first line, with the number of outline nodes and the number of bits, and then the levels.
 pub fn put_tree(words: &[u64], n: usize, nodes: &[i64], page: &mut [u8]) -> usize
     ensures { λ r. ⌜ Adds (now (page .entry)) 0 (treeLines (now (words .entry)) n (now (nodes .entry))) (now (page .exit)) r ⌝ }
 {

@@ -1,21 +1,18 @@
-// From the bytes that were read to all that is printed.
+// Puts all output of the program on a page, from the bytes that were read.
 ghost use mathlib.Core.Path.{_≡_};
 ghost use Prim.Native.Nat.{_≤_};
 ghost use lib.ListN.{length, take};
-ghost use Rattle.row.specs.Limits.{maxShortBits};
-ghost use Rattle.row.specs.Tree.{OneTree};
 ghost use Rattle.app_page.specs.Page.{Adds};
-ghost use Rattle.app_levels.specs.Printed.{printed, pageBytes};
+ghost use Rattle.app_levels.specs.Printed.{printed, pageBytes, ShortTree};
 ghost use Rattle.app_levels.specs.Outline.{definedLines};
 use crate::print::put_refusal;
 use crate::print::put_tree;
 use row::Built;
 use row::Read;
 
-// The lines of a tree over its nodes, built here: 64 leaves and 63 nodes above them at most, of three numbers each.
+// Builds the nodes of a tree and puts its lines. Blocks of 64 give at most 64 block leaves and 63 inner nodes: 3 * 127 = 381 entries.
 fn put_built(words: &[u64; 64], n: usize, page: &mut [u8]) -> usize
-    requires { ⌜ n ≤ maxShortBits ⌝ }
-    requires { ⌜ OneTree (now words) n ⌝ }
+    requires { ⌜ ShortTree (now words) n ⌝ }
     ensures { λ r. ⌜ Adds (now (page .entry)) 0 (definedLines (now (words .entry)) n) (now (page .exit)) r ⌝ }
 {
     let mut nodes = [0i64; 381];
@@ -25,8 +22,8 @@ fn put_built(words: &[u64; 64], n: usize, page: &mut [u8]) -> usize
     }
 }
 
-// The lines of the tree that the bytes hold, or the one line of a refusal. A page of 65,536 bytes has room for all of them: 2,048 nodes at
-// most, of at most 20 bytes a line, and the first line.
+// Puts the lines of the tree that the bytes encode, or the line of a refusal. A page of 65,536 bytes has room for all output: the first line
+// and at most 2,048 lines of outline nodes, of at most 20 bytes each.
 pub fn put_answer(bytes: &[u8], page: &mut [u8]) -> usize
     requires { ⌜ pageBytes ≤ length (now page) ⌝ }
     ensures { λ r. ⌜ (r ≡ length (printed (now (bytes .entry)))) × (take r (now (page .exit)) ≡ printed (now (bytes .entry))) ⌝ }

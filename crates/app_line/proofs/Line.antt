@@ -90,7 +90,8 @@ module _ (s ws : List ℕ) where
   unfolding lineWords
   words-read h = simp (le-leb (lineEnd s) maxShortBits h)
 
-  pub line-read : lineEnd s ≤ maxShortBits → length (line s) ≡ lineEnd s → length ws ≡ 64 → through (textGate (line s) (length ws)) (at (length (line s))) ≡ lineAnswer s
+  pub line-read : lineEnd s ≤ maxShortBits → length (line s) ≡ lineEnd s → length ws ≡ 64
+      → through (textGate (line s) (length ws)) (at (length (line s))) ≡ lineAnswer s
   unfolding lineAnswer
   line-read h l w = by (allParentheses (line s)) refl
     where

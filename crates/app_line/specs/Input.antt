@@ -1,5 +1,6 @@
 -- SCOPE, The program `levels`: the text before the first newline, and refusals 2, 6 and 7 in this order.
 -- Assumes nothing.
+use mathlib.Core.Path.{_≡_}
 use mathlib.Core.Bool.{cond}
 use mathlib.Core.List.{List, [], _∷_}
 use Prim.Native.Nat.{ℕ, suc}
@@ -21,7 +22,7 @@ lineEnd (b ∷ s) = cond (eqb b 10) 0 (suc (lineEnd s))
 abbrev pub line : List ℕ → List ℕ
 line s = take (lineEnd s) s
 
--- The answer for the line: refusal 2 for more than 4,096 bytes, then refusal 6 for a byte that is no parenthesis, else the number of bits.
+-- The answer for the line: refusal 2 (more than 4,096 bytes), then refusal 6 (a byte that is no parenthesis), else the number of bits.
 unfoldable pub lineAnswer : List ℕ → Answer
 lineAnswer s =
     cond (leb (lineEnd s) maxShortBits) (cond (allParentheses (line s)) (at (lineEnd s)) (refused (numberOf NotAParenthesis))) (refused (numberOf TooManyBits))
@@ -34,8 +35,13 @@ lineWords s ws = cond (leb (lineEnd s) maxShortBits) (textWords (line s) ws) ws
 unfoldable pub treeAnswer : List ℕ → ℕ → Answer
 treeAnswer ws n = through (rowGate (length ws) n) (cond (oneTree ws n) (at n) (refused (numberOf NotOneTree)))
 
--- The answer for the input: refusal 2 for more than 4,096 bytes, then 6 for a byte that is no parenthesis, then 7 for a row that is not one
--- tree, else the number of bits.
+-- The answer a for the row that was read: 7 or the bit count. The row is held in 64 words.
+pub record Admits (a : Answer) (ws : List ℕ) (n : ℕ) : Type 0 where
+  pub answer : a ≡ treeAnswer ws n
+  pub words : 64 ≡ length ws
+
+-- The answer for the input, by the first case that applies: refusal 2 (more than 4,096 bytes), refusal 6 (a byte that is no parenthesis),
+-- refusal 7 (not one tree), the number of bits.
 unfoldable pub inputAnswer : List ℕ → List ℕ → Answer
 inputAnswer s ws =
     cond (leb (lineEnd s) maxShortBits)

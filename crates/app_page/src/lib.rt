@@ -1,5 +1,5 @@
-// A page: bytes that are filled from the front. The program collects its output on a page and writes it once, so that one promise can cover
-// all output. `put`, `put_text` and `put_number` put something after the first `at` bytes and answer how many bytes are then filled.
+// A page: bytes that are filled from the front. The program `levels` collects its output on a page and writes it once, so that one promise can
+// cover all output. `put`, `put_text` and `put_number` put something after the first `at` bytes and answer how many bytes are then filled.
 //
 // This crate knows only bytes and numbers. What they mean is up to the caller.
 ghost use mathlib.Core.List.{[], _∷_};

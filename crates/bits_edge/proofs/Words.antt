@@ -1,7 +1,9 @@
--- Bits of a word are bits of the row.
---   hit-within: what a scan hits is one of the bits that it reads
---   Lies, edge-lies: where bits of the row stand in a word
---   word-scan, word-summary: what a scan of them answers, and their numbers
+-- Bits of one word are bits of the row.
+--   hit-within: a hit of a scan is below the end of the bits that it reads
+--   Lies: the claim that a stretch of the row is a stretch of one word
+--   edge-lies: a stretch with the bounds `InWord` satisfies this claim
+--   word-scan: a scan of these bits of the word, with its hit moved, is a scan of the row
+--   word-summary: the summary of these bits of the word is that of the bits of the row
 -- Assumes nothing.
 use mathlib.Core.Path.{_≡_, refl, sym, ap, _∙_}
 use mathlib.Core.List.{List}
@@ -24,7 +26,7 @@ use Rattle.bits_edge.specs.Parts.{InWord}
 pub hit-within : (w : Way) (f : ℕ → ℕ) (c a : ℕ) (r : ℤ) {k : ℕ} → Hit k ≡ scan w f c a r → k < a + c
 hit-within w f c a r e = (rw (sym e) at (scan-nearest f _ w c a r refl)) .0 .1
 
--- the c bits of a row from a on are the p bits of word i from b on
+-- The c bits of the row from a on are the p bits of word i from b on.
 pub record Lies (c a i p b : ℕ) : Type 0 where
   pub count : c ≡ p
   pub begin : a ≡ 64 * i + b
@@ -34,7 +36,8 @@ pub edge-lies : {n from to : ℕ} → InWord n from to → Lies (to - from) from
 edge-lies h = record { count = omega arith; begin = omega arith; inside = omega arith }
 
 module _ (w : Way) where
-  pub word-scan : (ws : List ℕ) (r : ℤ) {c a i p b : ℕ} {y : Scanned} → Lies c a i p b → y ≡ scan w (digit (getD ws i 0)) p b r → moved (64 * i) y ≡ scan w (bitAt ws) c a r
+  pub word-scan : (ws : List ℕ) (r : ℤ) {c a i p b : ℕ} {y : Scanned} → Lies c a i p b → y ≡ scan w (digit (getD ws i 0)) p b r
+      → moved (64 * i) y ≡ scan w (bitAt ws) c a r
   word-scan ws r {i = i} {p = p} {b = b} h e =
       ap (moved (64 * i)) e ∙ rw (h .count, h .begin) (sym (scan-shift w (bitAt ws) (digit (getD ws i 0)) (64 * i) p b r (λ k l m. sym (word-bits ws i k (omega (arith, h .inside))))))
 

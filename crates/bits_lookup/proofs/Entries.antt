@@ -1,6 +1,8 @@
--- An entry of the table gives back the least and the greatest that were put into it.
---   entry-of: the entry of a byte; entry-least, entry-greatest: what it gives back
---   from-start: the total of bits counted from 0 on
+-- A table entry gives back the least and the greatest that it encodes.
+--   entry-of: the entry of a byte encodes the summary of its eight bits
+--   from-start: the total of the first c bits is their excess
+--   entry-least: the upper part of an entry, minus 8, is the least
+--   entry-greatest: the lower part of an entry, minus 8, is the greatest
 -- Assumes nothing.
 use mathlib.Core.Path.{_≡_, ap, _∙_}
 use mathlib.Core.List.{List}
@@ -28,7 +30,7 @@ entry-of t b h l = h b l
 pub from-start : (f : ℕ → ℕ) (c : ℕ) → summaryOf f 0 c .total ≡ excess f c
 from-start f c = summary-total f 0 c ∙ excess-ext (λ k. f (0 + k)) f c (λ k l. ap f (zero-add k))
 
--- a number from -8 to 8 with 8 added to it
+-- A value from -8 to 8, raised by 8, is a natural of at most 16, and lowering it by 8 gives the value back.
 raised : (z : ℤ) → size z ≤ 8 → (natAbs (z +ℤ pos 8) ≤ 16) × (pos (natAbs (z +ℤ pos 8)) -ℤ pos 8 ≡ z)
 raised z h = go (z +ℤ pos 8) (plus z (pos 8))
   where

@@ -1,5 +1,7 @@
--- A byte's total as the machine reads it back, and what passing the byte leaves of r.
---   total-back: the total; less-fits, more-fits: what is left fits an i64
+-- The total of a byte as the code stores it, and the remainder after passing the byte.
+--   total-back: the total of a byte is unchanged by being stored in an i64
+--   less-fits: the remainder after passing the byte forward fits into an i64
+--   more-fits: the remainder after passing the byte backward fits into an i64
 -- Assumes nothing.
 use mathlib.Core.Path.{_≡_, ap, _∙_}
 use Prim.Native.Nat.{ℕ, _+_, _<_}

@@ -1,4 +1,6 @@
 -- A list made by a rule, and its entries.
+--   tabulated: the list g i, g (i + 1) and so on
+--   made-at: entry k of the list that starts with g 0 is g k
 -- Assumes nothing.
 use mathlib.Core.Path.{_≡_, sym, ap, _∙_}
 use mathlib.Core.List.{List, [], _∷_}
@@ -6,7 +8,7 @@ use Prim.Native.Nat.{ℕ, zero, suc, _+_, _<_}
 use native.Mathlib.Nat.{add-zero, zero-add, add-suc, suc-add, le-of-suc-le-suc, not-suc-le-zero}
 use lib.ListN.{getD}
 
--- g i, g (i + 1), .., n of them
+-- The list g i, g (i + 1) and so on, with n entries.
 unfoldable pub tabulated : (ℕ → ℕ) → ℕ → ℕ → List ℕ
 tabulated g i zero = []
 tabulated g i (suc n) = g i ∷ tabulated g (suc i) n

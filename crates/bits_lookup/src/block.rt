@@ -1,20 +1,16 @@
-// A byte's part in a search: the position in it, or what is left of the excess that is looked for.
+// The scan of one byte. If the byte does not qualify for the remainder, its summary is enough; otherwise its bits are read.
 ghost use mathlib.Core.Path.{_≡_};
-ghost use Prim.Native.Nat.{_+_, _<_};
-ghost use Rattle.ints.specs.Limits.{i64Bound};
-ghost use Rattle.ints.specs.Sides.{size};
 ghost use Rattle.row.specs.Bits.{digit};
 ghost use Rattle.row.specs.Way.{forward, backward};
 ghost use Rattle.bits_stretch.specs.Scan.{scan};
-ghost use Rattle.bits_lookup.specs.Table.{IsTable};
+ghost use Rattle.bits_lookup.specs.Scan.{ByteScan};
 use crate::encoding::Lookup;
 use crate::summary::byte_summary;
 use bits_stretch::Scanned;
 
-// The byte b, forward.
+// Scans the byte b forward.
 pub fn process_block_fwd(t: &Lookup, b: u8, r: i64) -> Scanned
-    requires { ⌜ IsTable (now t) ⌝ }
-    requires { ⌜ size r + 64 < i64Bound ⌝ }
+    requires { ⌜ ByteScan (now t) r ⌝ }
     ensures { λ a. ⌜ a ≡ scan forward (digit b) 8 0 r ⌝ }
 {
     let x = byte_summary(t, b);
@@ -24,11 +20,10 @@ pub fn process_block_fwd(t: &Lookup, b: u8, r: i64) -> Scanned
     Scanned::Left(r - x.total)
 }
 
-// The byte b, backward. At r = 0 its numbers always hold what is looked for, so the bits decide: where the Rust has its
-// `unreachable!`, what is left is answered.
+// Scans the byte b backward. For r = 0 every byte qualifies, so its bits decide. Where the Rust then reaches `unreachable!`, the
+// result here is the remainder after the byte.
 pub fn process_block_bwd(t: &Lookup, b: u8, r: i64) -> Scanned
-    requires { ⌜ IsTable (now t) ⌝ }
-    requires { ⌜ size r + 64 < i64Bound ⌝ }
+    requires { ⌜ ByteScan (now t) r ⌝ }
     ensures { λ a. ⌜ a ≡ scan backward (digit b) 8 0 r ⌝ }
 {
     let x = byte_summary(t, b);

@@ -1,8 +1,8 @@
-// The table of the eight-bit lookup: for each byte the least and the greatest of its running excess in one number,
-// ((least + 8) times 32) + (greatest + 8). Neither is below -8, so an entry is never negative.
+// The table of the byte lookup. The entry of a byte is (least + 8) * 32 + (greatest + 8), with least and greatest of its summary.
+// Neither value is below -8, so no entry is negative.
 //
-// A `const` is copied to the frame of each function that reads it. So it is made once, by the call that needs it, and lent
-// from there on as a `Lookup`: what stands in it is this file's affair.
+// A `const` is copied into the frame of each function that reads it. So the function that needs the table creates it once and
+// passes it on as a `Lookup`.
 ghost use Rattle.bits_lookup.specs.Table.{IsTable};
 
 pub type Lookup = [u16; 256];
@@ -266,7 +266,7 @@ const TABLE: Lookup = [
     304,
 ];
 
-// The table, to be lent to the functions of this crate.
+// Returns the table, to be passed to the other functions of this crate.
 pub fn table() -> Lookup
     ensures { λ t. ⌜ IsTable t ⌝ }
 {

@@ -1,7 +1,9 @@
-// Eight bits at a time: a byte's three numbers by a table, and a byte's part in a search.
+// Eight bits at a time: the summary of a byte by a lookup table, and the scan of a byte (SCOPE, The byte lookup).
 //
-// What is promised speaks of the byte's running excess alone. The table is lent as it was made, by `table`, and nobody else
-// looks into it.
+// The promises speak only of the bits of the byte, not of the table. A caller creates the table with `table` and passes it to the
+// other functions. No other crate reads its entries.
+//
+// The functions refuse nothing. Callers keep the bounds that a `requires` states.
 mod block;
 mod encoding;
 mod summary;

@@ -1,4 +1,4 @@
-// The three numbers of a byte: the total by counting, least and greatest by the table.
+// The summary of a byte: the total by counting ones, least and greatest by the table.
 ghost use mathlib.Core.Path.{_≡_};
 ghost use lib.IntN.{pos, _-ℤ_};
 ghost use Rattle.row.specs.Bits.{digit};
@@ -8,15 +8,15 @@ ghost use Rattle.bits_lookup.specs.Table.{IsTable};
 use crate::encoding::Lookup;
 use bits_stretch::Summary;
 
-// What a part of an entry stands for: it was raised by 8.
+// Returns the value that a part of an entry encodes. In an entry it is raised by 8.
 fn lowered(a: u16) -> i64
     ensures { λ r. ⌜ r ≡ pos a -ℤ pos 8 ⌝ }
 {
     a as i64 - 8
 }
 
-// What a byte adds to the excess: its ones less its zeros. Both are i64, and the compiler makes 2 * ones - 8 of it; it does
-// not where a difference of u32 is widened.
+// Returns the total of a byte: its ones minus its zeros. Both are i64, so that the compiler computes 2 * ones - 8. It would not do
+// so if a difference of u32 were widened.
 fn byte_total(b: u8) -> i64
     ensures { λ r. ⌜ r ≡ excess (digit b) 8 ⌝ }
 {
@@ -25,7 +25,7 @@ fn byte_total(b: u8) -> i64
     ones - zeros
 }
 
-// What a word adds to the excess: its ones less its zeros.
+// Returns the total of a word: its ones minus its zeros.
 pub fn word_total(w: u64) -> i64
     ensures { λ r. ⌜ r ≡ excess (digit w) 64 ⌝ }
 {
@@ -34,7 +34,7 @@ pub fn word_total(w: u64) -> i64
     ones - zeros
 }
 
-// The numbers of the byte b.
+// Returns the summary of the byte b.
 pub fn byte_summary(t: &Lookup, b: u8) -> Summary
     requires { ⌜ IsTable (now t) ⌝ }
     ensures { λ x. ⌜ x ≡ summaryOf (digit b) 0 8 ⌝ }

@@ -1,6 +1,9 @@
--- The numbers of a stretch of a row, taken from its bytes.
---   byte-summary: a byte; bytes-first, bytes-next: the bytes from one on, one more each time
---   whole-summary, tail-summary: a stretch of whole bytes, and of some bits more
+-- The summary of a stretch of a row, computed from its bytes.
+--   byte-summary: the summary of byte q is that of the eight bits of the row from 8q on
+--   bytes-first: the loop invariant holds after the first byte
+--   bytes-next: joining the summary of byte k extends the summary of bytes `from` to k - 1 to byte k
+--   whole-summary: if a stretch ends at a byte boundary, the summary of its whole bytes is that of the stretch
+--   tail-summary: otherwise it is the summary of the whole bytes, joined with that of the bits after them
 -- Assumes nothing.
 use mathlib.Core.Path.{_≡_, sym, ap, ap₂, _∙_}
 use mathlib.Core.List.{List}
@@ -19,7 +22,7 @@ module _ (ws : List ℕ) where
   pub bytes-first : (q : ℕ) → summaryOf (digit (byteAt ws q)) 0 8 ≡ summaryOf (bitAt ws) (8 * q) (8 * ((q + 1) - q))
   bytes-first q = let n : 8 ≡ 8 * ((q + 1) - q) = omega arith in byte-summary q ∙ ap (summaryOf (bitAt ws) (8 * q)) n
 
-  -- the numbers of c bits from a on, then those of d more
+  -- The summary of c bits from a on, joined with that of the d bits after them, is the summary of all c + d.
   more : (a b c d m : ℕ) → 0 < c → 0 < d → b ≡ a + c → m ≡ c + d → joinOf (summaryOf (bitAt ws) a c) (summaryOf (bitAt ws) b d) ≡ summaryOf (bitAt ws) a m
   more a b c d m h k p q = rw (p, q) (sym (summary-join (bitAt ws) a c d h k))
 
@@ -29,8 +32,9 @@ module _ (ws : List ℕ) where
       ap (joinOf (summaryOf (bitAt ws) (8 * from) (8 * (k - from)))) (byte-summary k)
       ∙ more (8 * from) (8 * k) (8 * (k - from)) 8 (8 * ((k + 1) - from)) (omega arith) (omega arith) (omega arith) (omega arith)
 
-  -- a stretch of whole bytes
-  pub whole-summary : (from to : ℕ) → from % 8 ≡ 0 → to % 8 ≡ 0 → summaryOf (bitAt ws) (8 * (from / 8)) (8 * (to / 8 - from / 8)) ≡ summaryOf (bitAt ws) from (to - from)
+  -- The stretch begins and ends at a byte boundary.
+  pub whole-summary : (from to : ℕ) → from % 8 ≡ 0 → to % 8 ≡ 0
+      → summaryOf (bitAt ws) (8 * (from / 8)) (8 * (to / 8 - from / 8)) ≡ summaryOf (bitAt ws) from (to - from)
   whole-summary from to e f =
       let p : 8 * (from / 8) ≡ from = omega arith in
       let q : 8 * (to / 8 - from / 8) ≡ to - from = omega arith in

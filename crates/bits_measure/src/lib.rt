@@ -1,7 +1,9 @@
-// The three numbers of a stretch of a row, read eight bits at a time: whole bytes by the lookup, then the last bits.
+// The summary of a stretch of a row, read eight bits at a time: whole bytes by the lookup, then the bits after them.
 //
-// The numbers of a block are those of a leaf of the node tree, and the numbers of all bits but the last tell whether a row is
-// one tree.
+// The summaries of the blocks are the entries of the block leaves in the min-max tree. The summary of all bits but the last decides
+// whether a row is one tree.
+//
+// The functions refuse nothing. Callers keep the bounds that a `requires` states.
 ghost use mathlib.Core.Path.{_≡_};
 ghost use Prim.Native.Nat.{_+_, _-_, _*_, _%_, _<_};
 ghost use lib.ListN.{length};
@@ -14,7 +16,7 @@ use bits_edge::edge_summary;
 use bits_lookup::Lookup;
 use bits_stretch::Summary;
 
-// Bytes from .. to of a row, at least one.
+// Returns the summary of bytes `from` to `to` - 1 of a row, at least one byte.
 fn bytes_summary(t: &Lookup, words: &[u64], from: usize, to: usize) -> Summary
     requires { ⌜ IsTable (now t) ⌝ }
     requires { ⌜ InRow (8 * length (now words)) from to maxBytes ⌝ }
@@ -30,7 +32,7 @@ fn bytes_summary(t: &Lookup, words: &[u64], from: usize, to: usize) -> Summary
     x
 }
 
-// Bits from .. to of a row, at least one. A stretch begins where a block does, at a byte's edge.
+// Returns the summary of bits `from` to `to` - 1 of a row, at least one bit. `from` is a multiple of 8, because blocks begin there.
 pub fn stretch_summary(t: &Lookup, words: &[u64], from: usize, to: usize) -> Summary
     requires { ⌜ IsTable (now t) ⌝ }
     requires { ⌜ InRow (64 * length (now words)) from to maxBits ⌝ }

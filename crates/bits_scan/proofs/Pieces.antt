@@ -1,9 +1,16 @@
--- A scan piece by piece, for either way: a row is read by words, a word by bytes.
---   Reading, reading-start, reading-done: where a scan stands that is read in parts
---   Part, part-hit, part-on: the next part is read, which hits, or leaves something to go on with
---   byte-scan: bits of a byte are bits of its word
---   Piece, piece-hit, piece-on: the next part is a word or a byte, and one turn of a loop reads it
---   far-fits, far-left: a word that is passed over at once
+-- A scan piece by piece, in either direction: a row is read by words, a word by bytes.
+--   Reading: what is left to scan gives the result of the whole scan, and the remainder is bounded
+--   reading-start: at the start the whole scan is left
+--   reading-done: with no bit left, the remainder is the result
+--   Part: the bits that are read next, and the bits that are left after them
+--   part-hit: a hit in the part is the hit of the whole scan
+--   part-on: if the part leaves a remainder, Reading holds for the bits after it
+--   byte-scan: a scan of a byte, with its hit moved, is a scan of these bits of its word
+--   Piece: one turn of a loop reads a part, which is a word or a byte
+--   piece-hit: a hit in the piece is the hit of the whole scan
+--   piece-on: if the piece leaves a remainder, Reading holds for the bits after it
+--   far-fits: the remainder after passing a whole word fits into an i64
+--   far-left: if |r| is above 64, the scan of a whole word leaves the remainder after passing its total
 -- Assumes nothing.
 use mathlib.Core.Path.{_≡_, refl, sym, ap, _∙_}
 use Prim.Native.Nat.{ℕ, _+_, _*_, _/_, _%_, _^_, _≤_, _<_}
@@ -31,12 +38,13 @@ use Rattle.bits_stretch.proofs.Steps.{scan-end}
 
 -- ---- part by part
 
--- of a scan of c bits from a on for r, that of m bits from j on for q is left to do; q is no further than r and the bits between
+-- A scan of c bits from a on with the remainder r has the same result as the scan of m bits from j on with the remainder q.
+-- The size of q exceeds that of r by at most the number of bits that were read.
 pub record Reading (w : Way) (f : ℕ → ℕ) (c a : ℕ) (r : ℤ) (m j : ℕ) (q : ℤ) : Type 0 where
   pub same : scan w f m j q ≡ scan w f c a r
   pub near : size q + m ≤ size r + c
 
--- of the m bits from j on, the p from x on are read first, and then the d from i on
+-- Of the m bits from j on, the p bits from x on are read first, then the d bits from i on.
 pub record Part (w : Way) (m j p x d i : ℕ) : Type 0 where
   pub count : m ≡ p + d
   pub first : x ≡ place w d j
@@ -63,7 +71,8 @@ module _ {w : Way} {f : ℕ → ℕ} {c a : ℕ} {r : ℤ} {m j : ℕ} {q : ℤ}
 -- ---- bits of a byte
 
 module _ (w : Way) where
-  pub byte-scan : (v k : ℕ) (r : ℤ) {b : ℕ} {y : Scanned} → b ≡ v / 2 ^ (8 * k) % 256 → y ≡ scan w (digit b) 8 0 r → moved (8 * k) y ≡ scan w (digit v) 8 (8 * k) r
+  pub byte-scan : (v k : ℕ) (r : ℤ) {b : ℕ} {y : Scanned} → b ≡ v / 2 ^ (8 * k) % 256 → y ≡ scan w (digit b) 8 0 r
+      → moved (8 * k) y ≡ scan w (digit v) 8 (8 * k) r
   byte-scan v k r {b} h e =
       ap (moved (8 * k)) e
       ∙ sym (scan-shift w (digit v) (digit b) (8 * k) 8 0 r (λ j l m. rw h (sym (byte-of v k j (omega arith)))))
@@ -71,7 +80,8 @@ module _ (w : Way) where
 
 -- ---- one turn of a loop
 
--- of the m bits from j on the part that is read first answers y, counted from s on, where q is looked for; d bits from i on are left then
+-- Of the m bits from j on, a part is read first. Its scan with the remainder q gives y, where a hit is counted from s on.
+-- After it the d bits from i on are left.
 pub record Piece (w : Way) (f : ℕ → ℕ) (m j : ℕ) (q : ℤ) (s : ℕ) (y : Scanned) (d i : ℕ) : Type 0 where
   pub bits : ℕ
   pub begin : ℕ
@@ -85,7 +95,7 @@ module _ {w : Way} {f : ℕ → ℕ} {c a : ℕ} {r : ℤ} {m j : ℕ} {q : ℤ}
   pub piece-on : {l : ℤ} → y ≡ Left l → SFits w64 l → Reading w f c a r d i (toZ w64 (ofZ w64 l))
   piece-on e h = part-on g (t .part) (t .read) (ap (moved s) e) h
 
--- ---- a whole word that r is further than: its total t is passed at once
+-- ---- a whole word that is passed at once by its total t, because |r| is above 64
 module _ (v : ℕ) where
   abbrev total : ℤ
   total = excess (digit v) 64

@@ -1,7 +1,10 @@
--- A word whose bytes are shifted out at one end, one after the other, each read there just before.
---   shl-shl: what is shifted out to the left is lost, whether at once or in turns; shl-field: the digits that are then at the top
---   low-next, low-byte: shifted to the right by k bytes; by one more; its lowest byte is byte k of the word
---   high-next, high-byte: shifted to the left until k bytes are left; by one more; its highest byte is byte k - 1 of the word
+-- A word whose bytes are shifted out at one end, one after the other. Each byte is read there just before.
+--   shl-shl: a left shift by i and then by j is a left shift by i + j
+--   shl-field: after a left shift by i, the digits from i + s on are those of the number from s on
+--   low-next: a word shifted right by k bytes, and then by one byte more, is shifted by k + 1 bytes
+--   low-byte: the lowest byte of a word shifted right by k bytes is byte k of the word
+--   high-next: a word shifted left until k bytes are left, and then by one byte more, has k - 1 bytes left
+--   high-byte: the highest byte of a word shifted left until k bytes are left is byte k - 1 of the word
 -- Assumes nothing.
 use mathlib.Core.Path.{_≡_, sym, ap, _∙_}
 use Prim.Native.Nat.{ℕ, _+_, _-_, _*_, _/_, _%_, _^_, _≤_, _<_}
@@ -9,7 +12,7 @@ use native.Mathlib.Nat.{add-mul, div-add-mod', div-one, mod-mod, mul-add-mod-sel
 use native.Mathlib.Omega.{arith}
 use lib.Pow.{field, pow-add, shl-shr, shr-shr}
 
--- ---- shifts to the left, in n digits
+-- ---- left shifts in n digits
 mod-times : (x y m : ℕ) → x % m * y % m ≡ x * y % m
 mod-times x y m =
     sym (mul-add-mod-self-right (x / m * y) m (x % m * y))
@@ -22,13 +25,13 @@ shl-shl v i j n =
     mod-times (v * 2 ^ i) (2 ^ j) (2 ^ n)
     ∙ ap (λ (x : ℕ). x % 2 ^ n) (mul-assoc v (2 ^ i) (2 ^ j) ∙ ap (λ (x : ℕ). v * x) (sym (pow-add 2 i j)))
 
--- of a number shifted by i the j digits from i + s on are those from s on of the number
+-- After a left shift by i, the j digits from i + s on are the j digits of the number from s on.
 pub shl-field : (v i s j : ℕ) → v * 2 ^ i % 2 ^ (j + (i + s)) / 2 ^ (i + s) ≡ v / 2 ^ s % 2 ^ j
 shl-field v i s j =
     field (v * 2 ^ i) j (i + s)
     ∙ ap (λ (x : ℕ). x % 2 ^ j) (sym (shr-shr (v * 2 ^ i) i s) ∙ ap (λ (x : ℕ). x / 2 ^ s) (shl-shr v i))
 
--- ---- bytes of the word v, of which w is left
+-- ---- bytes of the word v; w is the word after some bytes are shifted out
 module _ (v k : ℕ) {w : ℕ} where
   module _ (e : w ≡ v / 2 ^ (8 * k)) where
     pub low-next : w / 2 ^ 8 ≡ v / 2 ^ (8 * (k + 1))

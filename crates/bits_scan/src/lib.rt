@@ -1,7 +1,9 @@
-// A search within a block, which reads the bits of a row eight at a time, forward and backward.
+// Scans within a block, forward and backward, which read the bits of a row eight at a time.
 //
-// A stretch from .. to is read in three parts: bits up to a byte's edge, then whole bytes by the lookup, then the last bits.
-// Words are held and their bytes shifted out of them.
+// A scan reads a stretch in three parts: bits up to a byte boundary, whole bytes by the lookup, then the bits that are left.
+// Whole bytes are read word by word: a word is read once, and its bytes are shifted out of it.
+//
+// The functions refuse nothing. Callers keep the bounds that a `requires` states.
 mod backward;
 mod forward;
 

@@ -1,4 +1,4 @@
--- What a summary says of the bits from a to t - 1 and their excess e: from a to t the excess changes by the total, relative to e(a)
+-- What a summary says of the bits from a to t - 1 and their excess e. From a to t the excess changes by the total. Relative to e(a)
 -- it stays between least and greatest, and it takes every value between them.
 --   Full: this claim, for a stretch of at least one bit
 --   end-over, end-under: the excess at the end of the stretch is also between least and greatest
@@ -182,7 +182,8 @@ highest-ext g h (suc c) q = ap₂ maxZ (highest-ext g h c (λ j l. q j (omega ar
 pub summary-ext : (f g : ℕ → ℕ) (a b c : ℕ) → ((k : ℕ) → k < c → f (a + k) ≡ g (b + k)) → summaryOf f a c ≡ summaryOf g b c
 unfolding summaryOf run
 summary-ext f g a b zero h = refl
-summary-ext f g a b (suc c) h = λ i. record { total = q c (omega arith) i; least = lowest-ext (run f a) (run g b) c q i; greatest = highest-ext (run f a) (run g b) c q i }
+summary-ext f g a b (suc c) h =
+    λ i. record { total = q c (omega arith) i; least = lowest-ext (run f a) (run g b) c q i; greatest = highest-ext (run f a) (run g b) c q i }
   where
     q : (j : ℕ) → j ≤ c → run f a j ≡ run g b j
     q j l = excess-ext (λ k. f (a + k)) (λ k. g (b + k)) (suc j) (λ k m. h k (omega arith))

@@ -46,7 +46,8 @@ module _ (f : ℕ → ℕ) (v : ℤ) where
   next : (w : Way) (c a : ℕ) (r : ℤ) → v ≡ excess f (place w (suc c) a) +ℤ r → v ≡ excess f (place w c (rest w a)) +ℤ less w r (f (place w c a))
   unfolding excess
   next forward c a r h = omega (zsum, minus r (sign (f a)), plus (excess f a) (sign (f a)))
-  next backward c a r h = let q : v ≡ excess f (suc (a + c)) +ℤ r = rw add-suc at h in omega (zsum, plus r (sign (f (a + c))), plus (excess f (a + c)) (sign (f (a + c))))
+  next backward c a r h =
+      let q : v ≡ excess f (suc (a + c)) +ℤ r = rw add-suc at h in omega (zsum, plus r (sign (f (a + c))), plus (excess f (a + c)) (sign (f (a + c))))
 
   judged : (w : Way) (c a : ℕ) → met w (excess f) (place w c a) ≡ excess f (place w c (rest w a))
   judged forward c a = refl
@@ -87,7 +88,8 @@ module _ (f : ℕ → ℕ) (v : ℤ) where
     wider n nothing g = λ k h. g k (missed n k h)
     wider n (refused m) g = g
 
-  pub scan-nearest : (w : Way) (c a : ℕ) (r : ℤ) → v ≡ excess f (place w c a) +ℤ r → NearestBy (Before w) (InStretch (Meets w) a (a + c)) (hitAnswer (scan w f c a r))
+  pub scan-nearest : (w : Way) (c a : ℕ) (r : ℤ) → v ≡ excess f (place w c a) +ℤ r
+      → NearestBy (Before w) (InStretch (Meets w) a (a + c)) (hitAnswer (scan w f c a r))
   unfolding scan Here
   scan-nearest w zero a r h = λ k i. omega arith
   scan-nearest w (suc c) a r h = go (eqZ q (pos 0)) refl (scan-nearest w c (rest w a) q n)
@@ -98,7 +100,8 @@ module _ (f : ℕ → ℕ) (v : ℤ) where
       n : v ≡ excess f (place w c (rest w a)) +ℤ q
       n = next w c a r h
 
-      go : (t : Bool) → eqZ q (pos 0) ≡ t → Here w (rest w a) c (hitAnswer (scan w f c (rest w a) q)) → Here w a (suc c) (hitAnswer (cond t (Hit (place w c a)) (scan w f c (rest w a) q)))
+      go : (t : Bool) → eqZ q (pos 0) ≡ t → Here w (rest w a) c (hitAnswer (scan w f c (rest w a) q))
+          → Here w a (suc c) (hitAnswer (cond t (Hit (place w c a)) (scan w f c (rest w a) q)))
       go true e g = let z = eqZ-true q (pos 0) e in hit w c a (judged w c a ∙ omega (zsum, n))
       go false e g = wider w c a (λ m. eqZ-false q (pos 0) e (omega (zsum, n, judged w c a, m))) (hitAnswer (scan w f c (rest w a) q)) g
 
@@ -122,8 +125,10 @@ module _ (f : ℕ → ℕ) (v : ℤ) where
 
 module _ (f : ℕ → ℕ) where
   pub scan-left : (w : Way) (c a : ℕ) (r q : ℤ) → scan w f c a r ≡ Left q → q ≡ passed w r (excess (λ k. f (a + k)) c)
-  scan-left forward c a r q e = omega (zsum, left-at f (excess f a +ℤ r) forward c a r q refl e, excess-add f a c, plus (excess f a) r, minus r (excess (λ k. f (a + k)) c))
-  scan-left backward c a r q e = omega (zsum, left-at f (excess f (a + c) +ℤ r) backward c a r q refl e, excess-add f a c, plus (excess f (a + c)) r, plus r (excess (λ k. f (a + k)) c))
+  scan-left forward c a r q e =
+      omega (zsum, left-at f (excess f a +ℤ r) forward c a r q refl e, excess-add f a c, plus (excess f a) r, minus r (excess (λ k. f (a + k)) c))
+  scan-left backward c a r q e =
+      omega (zsum, left-at f (excess f (a + c) +ℤ r) backward c a r q refl e, excess-add f a c, plus (excess f (a + c)) r, plus r (excess (λ k. f (a + k)) c))
 
   -- If no position has the searched excess, the scan passes all bits.
   pub scan-none : (w : Way) (c a : ℕ) (r : ℤ) → ((k : ℕ) → a ≤ k → k < a + c → met w (excess f) k ≡ excess f (place w c a) +ℤ r → ⊥)
@@ -143,6 +148,7 @@ module _ (f : ℕ → ℕ) where
       p : ℤ
       p = less w r (f (place w c a))
 
-      go : (t : Bool) → eqZ p (pos 0) ≡ t → cond t (Hit (place w c a)) (scan w f c (rest w a) p) ≡ Left q → ((p ≡ pos 0 → ⊥) → scan w f c (rest w a) p ≡ Left q → ⊥) → ⊥
+      go : (t : Bool) → eqZ p (pos 0) ≡ t → cond t (Hit (place w c a)) (scan w f c (rest w a) p) ≡ Left q
+          → ((p ≡ pos 0 → ⊥) → scan w f c (rest w a) p ≡ Left q → ⊥) → ⊥
       go true h e g = let y : _≡_ {A = ℕ} 0 1 = cc in omega arith
       go false h e g = g (eqZ-false p (pos 0) h) e

@@ -112,6 +112,7 @@ module _ (w : Way) (f : ℕ → ℕ) where
       p : ℤ
       p = less w r (f (place w c j))
 
-      go : (t : Bool) → (scan w f c (rest w j) p ≡ Left q → size q ≤ size p + c) → cond t (Hit (place w c j)) (scan w f c (rest w j) p) ≡ Left q → size q ≤ size r + suc c
+      go : (t : Bool) → (scan w f c (rest w j) p ≡ Left q → size q ≤ size p + c) → cond t (Hit (place w c j)) (scan w f c (rest w j) p) ≡ Left q
+          → size q ≤ size r + suc c
       go true h e = let z : _≡_ {A = ℕ} 0 1 = cc in absurd (omega arith)
       go false h e = omega (arith, less-size w r (f (place w c j)), h e)

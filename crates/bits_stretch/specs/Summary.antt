@@ -33,7 +33,7 @@ unfoldable pub summaryOf : (ℕ → ℕ) → ℕ → ℕ → Summary
 summaryOf f a zero = none
 summaryOf f a (suc c) = record { total = run f a c; least = lowest (run f a) c; greatest = highest (run f a) c }
 
--- A left (tl, ml, xl) and a right (tr, mr, xr) join to (tl + tr, min(ml, tl + mr), max(xl, tl + xr)).
+-- A left summary (tl, ml, xl) and a right summary (tr, mr, xr) join to (tl + tr, min(ml, tl + mr), max(xl, tl + xr)).
 unfoldable pub joinOf : Summary → Summary → Summary
 joinOf x y = record {
   total = x .total +ℤ y .total;
@@ -58,3 +58,8 @@ pub record Tame (x : Summary) : Type 0 where
   pub total : size (x .total) ≤ tameBound
   pub least : size (x .least) ≤ tameBound
   pub greatest : size (x .greatest) ≤ tameBound
+
+-- Two summaries that can be joined: the left one x and the right one y.
+pub record TamePair (x y : Summary) : Type 0 where
+  pub left : Tame x
+  pub right : Tame y

@@ -1,6 +1,6 @@
 // The summary of a stretch, the join of two summaries, and the tests whether a stretch qualifies for a remainder.
 ghost use mathlib.Core.Path.{_≡_};
-ghost use Rattle.bits_stretch.specs.Summary.{Tame, joinOf, holdsFor, holdsBack};
+ghost use Rattle.bits_stretch.specs.Summary.{TamePair, joinOf, holdsFor, holdsBack};
 
 // Total, least and greatest running excess. The running excess is counted after each bit, from the start of the stretch.
 pub struct Summary {
@@ -11,8 +11,7 @@ pub struct Summary {
 
 // Returns the summary of the stretch x followed by the stretch y.
 pub fn join(x: Summary, y: Summary) -> Summary
-    requires { ⌜ Tame x ⌝ }
-    requires { ⌜ Tame y ⌝ }
+    requires { ⌜ TamePair x y ⌝ }
     ensures { λ r. ⌜ r ≡ joinOf x y ⌝ }
 {
     let total = x.total + y.total;

@@ -1,5 +1,5 @@
 -- From the result of the tests to the promise of `is_ancestor`, which takes two handles.
---   AncestorAnswers: the promise of `is_ancestor`
+--   AncestorPromise: the promise of `is_ancestor`
 --   two-refused, two-passed: the promise if a test refuses, and if all tests pass
 -- Assumes nothing.
 use mathlib.Core.Path.{_≡_}
@@ -12,21 +12,17 @@ use Rattle.row.specs.declared.gate.Gate.the-variants.{Pass, Refuse}
 use Rattle.row.specs.Answer.{Answer, refused, numberOf}
 use Rattle.row.specs.Gates.{andThen}
 use Rattle.mmt_layout.specs.Layout.{nodesGate}
-use Rattle.bp_spec.specs.SearchCalls.{WhereBuilt}
 use Rattle.bp_spec.specs.SearchPair.{walked}
 use Rattle.bp_spec.proofs.HandleAnswers.{gates-refused, gates-passed}
-use Rattle.bp_spec.specs.AncestorCalls.{isAncestor, bothGate, ancestorAnswer, ancestorDefined}
+use Rattle.bp_spec.specs.AncestorCalls.{isAncestor, bothGate, ancestorAnswer, ancestorDefined, AncestorPromise}
 
 module _ (ws : List ℕ) (n : ℕ) (s : List ℤ) (B a d : ℕ) where
-  abbrev pub AncestorAnswers : Answer → Type 0
-  AncestorAnswers t = (t ≡ ancestorAnswer ws n s B a d) × WhereBuilt ws n s B t (ancestorDefined ws n a d)
-
   pub two-refused : (k : Refusal) → andThen (nodesGate (length ws) n (length s) B) (bothGate ws n a d) ≡ Refuse k
-      → AncestorAnswers (refused (numberOf k))
+      → AncestorPromise ws n s B a d (refused (numberOf k))
   unfolding ancestorAnswer ancestorDefined
   two-refused = gates-refused ws n s B (bothGate ws n a d) (λ f. isAncestor ws n f a d)
 
   pub two-passed : (t : Answer) → andThen (nodesGate (length ws) n (length s) B) (bothGate ws n a d) ≡ Pass
-      → t ≡ isAncestor ws n (walked ws n s B) a d → AncestorAnswers t
+      → t ≡ isAncestor ws n (walked ws n s B) a d → AncestorPromise ws n s B a d t
   unfolding ancestorAnswer ancestorDefined
   two-passed = gates-passed ws n s B (bothGate ws n a d) (λ f. isAncestor ws n f a d)

@@ -11,18 +11,16 @@ ghost use Rattle.row.specs.Answer.{paperFound, paperTold};
 ghost use Rattle.row.specs.Gates.{andThen};
 ghost use Rattle.mmt_layout.specs.Layout.{nodesGate, Fine};
 ghost use Rattle.bp_spec.specs.RowCalls.{told};
-ghost use Rattle.bp_spec.specs.SearchCalls.{WhereBuilt};
 ghost use Rattle.bp_spec.specs.SearchPair.{walked};
-ghost use Rattle.bp_spec.specs.HandleCalls.{nodeAnswer, nodeDefined};
-ghost use Rattle.bp_spec.specs.AncestorCalls.{parent, isAncestor, bothGate, ancestorAnswer, ancestorDefined};
+ghost use Rattle.bp_spec.specs.HandleCalls.{HandlePromise};
+ghost use Rattle.bp_spec.specs.AncestorCalls.{parent, isAncestor, bothGate, AncestorPromise};
 use row::Found;
 use row::Gate;
 use row::Told;
 
 // Returns the parent of v: `enclose(v)`, which is bwd(v, -1) because the bit at a handle is open.
 pub fn parent(words: &[u64], n: usize, nodes: &[i64], block: usize, v: usize) -> Found
-    ensures { λ a. ⌜ paperFound a ≡ nodeAnswer parent (now (words .entry)) n (now (nodes .entry)) block v ⌝ }
-    ensures { λ a. ⌜ WhereBuilt (now (words .entry)) n (now (nodes .entry)) block (paperFound a) (nodeDefined parent (now (words .entry)) n v) ⌝ }
+    ensures { λ a. ⌜ HandlePromise parent (now (words .entry)) n (now (nodes .entry)) block v (paperFound a) ⌝ }
 {
     match bp_handle::admit_node(words, n, nodes, block, v) {
         Gate::Refuse(k) => Found::Refused(k),
@@ -32,7 +30,11 @@ pub fn parent(words: &[u64], n: usize, nodes: &[i64], block: usize, v: usize) ->
 
 // Tests refusals 1 to 5, in this order, for the handles a and d.
 fn admit_both(words: &[u64], n: usize, nodes: &[i64], block: usize, a: usize, d: usize) -> Gate
-    ensures { λ g. ⌜ g ≡ andThen (nodesGate (length (now (words .entry))) n (length (now (nodes .entry))) block) (bothGate (now (words .entry)) n a d) ⌝ }
+    ensures { λ g.
+        ⌜
+        g
+        ≡ andThen (nodesGate (length (now (words .entry))) n (length (now (nodes .entry))) block) (bothGate (now (words .entry)) n a d)
+        ⌝ }
 {
     match bp_handle::admit_node(words, n, nodes, block, a) {
         Gate::Refuse(k) => Gate::Refuse(k),
@@ -42,8 +44,7 @@ fn admit_both(words: &[u64], n: usize, nodes: &[i64], block: usize, a: usize, d:
 
 // Tests whether a is d or an ancestor of d: a <= d < c with c = `close(a)`. The answer is nothing if a has no close.
 pub fn is_ancestor(words: &[u64], n: usize, nodes: &[i64], block: usize, a: usize, d: usize) -> Told
-    ensures { λ t. ⌜ paperTold t ≡ ancestorAnswer (now (words .entry)) n (now (nodes .entry)) block a d ⌝ }
-    ensures { λ t. ⌜ WhereBuilt (now (words .entry)) n (now (nodes .entry)) block (paperTold t) (ancestorDefined (now (words .entry)) n a d) ⌝ }
+    ensures { λ t. ⌜ AncestorPromise (now (words .entry)) n (now (nodes .entry)) block a d (paperTold t) ⌝ }
 {
     match admit_both(words, n, nodes, block, a, d) {
         Gate::Refuse(k) => Told::Refused(k),

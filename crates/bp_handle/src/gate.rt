@@ -17,7 +17,11 @@ pub fn admit_handle(words: &[u64], n: usize, v: usize) -> Gate
 
 // Tests refusals 1 to 5, in this order, for the handle v.
 pub fn admit_node(words: &[u64], n: usize, nodes: &[i64], block: usize, v: usize) -> Gate
-    ensures { λ g. ⌜ g ≡ andThen (nodesGate (length (now (words .entry))) n (length (now (nodes .entry))) block) (handleGate (now (words .entry)) n v) ⌝ }
+    ensures { λ g.
+        ⌜
+        g
+        ≡ andThen (nodesGate (length (now (words .entry))) n (length (now (nodes .entry))) block) (handleGate (now (words .entry)) n v)
+        ⌝ }
 {
     match mmt_layout::admit(words.len(), n, nodes.len(), block) {
         Gate::Refuse(k) => Gate::Refuse(k),

@@ -26,11 +26,11 @@ use Rattle.mmt_layout.proofs.Admitted.{gate-fine}
 use Rattle.mmt_node.specs.Nodes.{AsBuilt}
 use Rattle.walk_spec.specs.Walk.{walk}
 use Rattle.bp_spec.specs.SearchPair.{Searches, walked, defined, onward, openOf}
-use Rattle.bp_spec.specs.SearchCalls.{WhereBuilt}
+use Rattle.bp_spec.specs.SearchCalls.{Promise}
 use Rattle.bp_spec.proofs.SearchesAgree.{call-defined}
 use Rattle.walk_code.proofs.Answers.{walk-end}
 use Rattle.bp_level.proofs.NodeLevels.{walk-beyond}
-use Rattle.bp_spec.specs.LevelEnds.{levelLeftmost, levelRightmost, rootStart, lastStart, levelAnswer, rightmostAnswer, rightmostDefined}
+use Rattle.bp_spec.specs.LevelEnds.{levelLeftmost, levelRightmost, rootStart, lastStart, levelAnswer, rightmostAnswer, rightmostDefined, LevelPromise, RightmostPromise}
 use Rattle.bp_spec.proofs.RightmostStart.{rightmost-right}
 
 -- ---- the tests
@@ -39,23 +39,19 @@ module _ (ws : List ℕ) (n : ℕ) (s : List ℤ) (B : ℕ) where
   abbrev pub gate : Gate
   gate = nodesGate (length ws) n (length s) B
 
-  -- The promise of a call: its answer a is the answer x by the walk, and over nodes as built the definition d.
-  abbrev pub LevelPromise : Answer → Answer → Answer → Type 0
-  LevelPromise x d a = (a ≡ x) × WhereBuilt ws n s B a d
-
   -- ---- the promise of a call on a level
-  refuses : (x d : Answer) (e : Refusal) → gate ≡ Refuse e → LevelPromise (through gate x) d (refused (numberOf e))
-  refuses x d e g = (rw g, λ o b. let z : _≡_ {A = ℕ} 0 1 = cc in absurd (omega arith))
+  refuses : (x d : Answer) (e : Refusal) → gate ≡ Refuse e → Promise ws n s B (through gate x) d (refused (numberOf e))
+  refuses x d e g = record { answer = rw g; as-built = λ o b. let z : _≡_ {A = ℕ} 0 1 = cc in absurd (omega arith) }
 
-  answers : (x d a : Answer) → gate ≡ Pass → a ≡ x → (AsBuilt ws n s B → x ≡ d) → LevelPromise (through gate x) d a
-  answers x d a g p f = (rw g p, λ o b. p ∙ f b)
+  answers : (x d a : Answer) → gate ≡ Pass → a ≡ x → (AsBuilt ws n s B → x ≡ d) → Promise ws n s B (through gate x) d a
+  answers x d a g p f = record { answer = rw g p; as-built = λ o b. p ∙ f b }
 
   module _ (call : List ℕ → ℕ → Searches → ℕ → Answer) (k : ℕ) where
-    pub level-refused : (e : Refusal) → gate ≡ Refuse e → LevelPromise (levelAnswer call ws n s B k) (call ws n (defined ws n) k) (refused (numberOf e))
+    pub level-refused : (e : Refusal) → gate ≡ Refuse e → LevelPromise call ws n s B k (refused (numberOf e))
     unfolding levelAnswer
     level-refused e g = refuses (call ws n (walked ws n s B) k) (call ws n (defined ws n) k) e g
 
-    pub level-passed : (a : Answer) → gate ≡ Pass → a ≡ call ws n (walked ws n s B) k → LevelPromise (levelAnswer call ws n s B k) (call ws n (defined ws n) k) a
+    pub level-passed : (a : Answer) → gate ≡ Pass → a ≡ call ws n (walked ws n s B) k → LevelPromise call ws n s B k a
     unfolding levelAnswer
     level-passed a g p =
         answers (call ws n (walked ws n s B) k) (call ws n (defined ws n) k) a g p (λ b. call-defined ws n s B g b (λ y. call ws n y k))
@@ -65,11 +61,11 @@ module _ (ws : List ℕ) (n : ℕ) (s : List ℤ) (B : ℕ) where
     abbrev byWalk : Answer
     byWalk = levelRightmost ws n (walked ws n s B) (rootStart n s) k
 
-    pub rightmost-refused : (e : Refusal) → gate ≡ Refuse e → LevelPromise (rightmostAnswer ws n s B k) (rightmostDefined ws n k) (refused (numberOf e))
+    pub rightmost-refused : (e : Refusal) → gate ≡ Refuse e → RightmostPromise ws n s B k (refused (numberOf e))
     unfolding rightmostAnswer
     rightmost-refused e g = refuses byWalk (rightmostDefined ws n k) e g
 
-    pub rightmost-passed : (a : Answer) → gate ≡ Pass → a ≡ byWalk → LevelPromise (rightmostAnswer ws n s B k) (rightmostDefined ws n k) a
+    pub rightmost-passed : (a : Answer) → gate ≡ Pass → a ≡ byWalk → RightmostPromise ws n s B k a
     unfolding rightmostAnswer rightmostDefined
     rightmost-passed a g p =
         let f = gate-fine (length ws) n (length s) B g in

@@ -4,16 +4,13 @@
 // `level_rightmost` searches backward from 2*ones - 1. It does not count the open bits: over nodes as built the total of the root tells
 // their number. So it examines the root first.
 ghost use mathlib.Core.Path.{_≡_};
-ghost use Prim.Native.Nat.{_≤_, _<_};
 ghost use lib.IntN.{pos, _+ℤ_, _-ℤ_};
 ghost use lib.ListN.{length};
-ghost use Rattle.row.specs.Limits.{maxBits};
-ghost use Rattle.ints.specs.Sides.{size};
 ghost use Rattle.row.specs.Answer.{paperFound};
-ghost use Rattle.mmt_layout.specs.Layout.{Fine, width};
+ghost use Rattle.mmt_layout.specs.Layout.{Fine};
 ghost use Rattle.bp_spec.specs.SearchPair.{walked, defined};
-ghost use Rattle.bp_spec.specs.SearchCalls.{WhereBuilt};
-ghost use Rattle.bp_spec.specs.LevelEnds.{levelLeftmost, levelRightmost, inRow, rootStart, levelAnswer, rightmostAnswer, rightmostDefined};
+ghost use Rattle.bp_spec.specs.LevelEnds.{levelLeftmost, levelRightmost, inRow, rootStart, LevelPromise, RightmostPromise};
+ghost use Rattle.bp_level.specs.RootStart.{RootThere, RootTotal};
 use crate::from_node::open_before;
 use crate::from_node::too_far;
 use row::Found;
@@ -43,8 +40,7 @@ fn leftmost_at(words: &[u64], n: usize, nodes: &[i64], block: usize, k: u64) -> 
 
 // Returns n + total - 1 if that is a position of the row, otherwise nothing. With foreign nodes the number can be below 0 or at least n.
 fn start_by(n: usize, total: i64) -> Found
-    requires { ⌜ n ≤ maxBits ⌝ }
-    requires { ⌜ size total ≤ maxBits ⌝ }
+    requires { ⌜ RootTotal n total ⌝ }
     ensures { λ a. ⌜ paperFound a ≡ inRow n (pos n +ℤ total -ℤ pos 1) ⌝ }
 {
     let i = n as i64 + total - 1;
@@ -60,8 +56,7 @@ fn start_by(n: usize, total: i64) -> Found
 
 // Returns the position where `level_rightmost` starts. It examines the root first and refuses by 8 if an entry is out of range.
 fn root_start(n: usize, nodes: &[i64]) -> Found
-    requires { ⌜ n ≤ maxBits ⌝ }
-    requires { ⌜ (0 < n → width ≤ length (now nodes)) ⌝ }
+    requires { ⌜ RootThere n (length (now nodes)) ⌝ }
     ensures { λ a. ⌜ paperFound a ≡ rootStart n (now (nodes .entry)) ⌝ }
 {
     if n == 0 {
@@ -76,7 +71,12 @@ fn root_start(n: usize, nodes: &[i64]) -> Found
 // Answers `level_rightmost(k)`: `open(j)` with j = bwd(start, k). For a level above n the answer is nothing, and the root is not read.
 fn rightmost_at(words: &[u64], n: usize, nodes: &[i64], block: usize, k: u64) -> Found
     requires { ⌜ Fine (length (now words)) n (length (now nodes)) block ⌝ }
-    ensures { λ a. ⌜ paperFound a ≡ levelRightmost (now (words .entry)) n (walked (now (words .entry)) n (now (nodes .entry)) block) (rootStart n (now (nodes .entry))) k ⌝ }
+    ensures { λ a.
+        ⌜
+        paperFound a
+        ≡ levelRightmost (now (words .entry)) n (walked (now (words .entry)) n (now (nodes .entry)) block)
+        (rootStart n (now (nodes .entry))) k
+        ⌝ }
 {
     if too_far(n, k) {
         return Found::Nothing;
@@ -92,8 +92,7 @@ fn rightmost_at(words: &[u64], n: usize, nodes: &[i64], block: usize, k: u64) ->
 
 // Returns the first outline node of level k: 0 for level 0 of a row with bits, otherwise fwd(0, k).
 pub fn level_leftmost(words: &[u64], n: usize, nodes: &[i64], block: usize, k: u64) -> Found
-    ensures { λ a. ⌜ paperFound a ≡ levelAnswer levelLeftmost (now (words .entry)) n (now (nodes .entry)) block k ⌝ }
-    ensures { λ a. ⌜ WhereBuilt (now (words .entry)) n (now (nodes .entry)) block (paperFound a) (levelLeftmost (now (words .entry)) n (defined (now (words .entry)) n) k) ⌝ }
+    ensures { λ a. ⌜ LevelPromise levelLeftmost (now (words .entry)) n (now (nodes .entry)) block k (paperFound a) ⌝ }
 {
     match mmt_layout::admit(words.len(), n, nodes.len(), block) {
         Gate::Refuse(e) => Found::Refused(e),
@@ -103,8 +102,7 @@ pub fn level_leftmost(words: &[u64], n: usize, nodes: &[i64], block: usize, k: u
 
 // Returns the last outline node of level k: `open(j)` with j = bwd(2*ones - 1, k).
 pub fn level_rightmost(words: &[u64], n: usize, nodes: &[i64], block: usize, k: u64) -> Found
-    ensures { λ a. ⌜ paperFound a ≡ rightmostAnswer (now (words .entry)) n (now (nodes .entry)) block k ⌝ }
-    ensures { λ a. ⌜ WhereBuilt (now (words .entry)) n (now (nodes .entry)) block (paperFound a) (rightmostDefined (now (words .entry)) n k) ⌝ }
+    ensures { λ a. ⌜ RightmostPromise (now (words .entry)) n (now (nodes .entry)) block k (paperFound a) ⌝ }
 {
     match mmt_layout::admit(words.len(), n, nodes.len(), block) {
         Gate::Refuse(e) => Found::Refused(e),

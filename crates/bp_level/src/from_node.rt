@@ -8,8 +8,7 @@ ghost use lib.ListN.{length};
 ghost use Rattle.row.specs.Answer.{paperFound};
 ghost use Rattle.mmt_layout.specs.Layout.{Fine};
 ghost use Rattle.bp_spec.specs.SearchPair.{walked, onward, openOf};
-ghost use Rattle.bp_spec.specs.HandleCalls.{nodeAnswer, nodeDefined};
-ghost use Rattle.bp_spec.specs.SearchCalls.{WhereBuilt};
+ghost use Rattle.bp_spec.specs.HandleCalls.{HandlePromise};
 ghost use Rattle.bp_spec.specs.LevelCalls.{levelAncestor, levelNext, levelPrev};
 use bp_handle::admit_node;
 use row::Found;
@@ -56,7 +55,12 @@ fn next_of(words: &[u64], n: usize, nodes: &[i64], block: usize, v: usize) -> Fo
 // Returns `open(j)` with j = bwd(i, r).
 pub fn open_before(words: &[u64], n: usize, nodes: &[i64], block: usize, i: usize, r: i64) -> Found
     requires { ⌜ Fine (length (now words)) n (length (now nodes)) block ⌝ }
-    ensures { λ a. ⌜ paperFound a ≡ onward (walked (now (words .entry)) n (now (nodes .entry)) block .bwd i r) (openOf (walked (now (words .entry)) n (now (nodes .entry)) block)) ⌝ }
+    ensures { λ a.
+        ⌜
+        paperFound a
+        ≡ onward (walked (now (words .entry)) n (now (nodes .entry)) block .bwd i r)
+        (openOf (walked (now (words .entry)) n (now (nodes .entry)) block))
+        ⌝ }
 {
     match walk_bwd(words, n, nodes, block, i, r) {
         Found::At(c) => walk_bwd(words, n, nodes, block, c, -1),
@@ -76,8 +80,7 @@ pub fn level_ancestor(
     v: usize,
     k: u64,
 ) -> Found
-    ensures { λ a. ⌜ paperFound a ≡ nodeAnswer (levelAncestor k) (now (words .entry)) n (now (nodes .entry)) block v ⌝ }
-    ensures { λ a. ⌜ WhereBuilt (now (words .entry)) n (now (nodes .entry)) block (paperFound a) (nodeDefined (levelAncestor k) (now (words .entry)) n v) ⌝ }
+    ensures { λ a. ⌜ HandlePromise (levelAncestor k) (now (words .entry)) n (now (nodes .entry)) block v (paperFound a) ⌝ }
 {
     match admit_node(words, n, nodes, block, v) {
         Gate::Refuse(e) => Found::Refused(e),
@@ -87,8 +90,7 @@ pub fn level_ancestor(
 
 // Returns the next outline node on the level of v: fwd(c, 1) with c = `close(v)`.
 pub fn level_next(words: &[u64], n: usize, nodes: &[i64], block: usize, v: usize) -> Found
-    ensures { λ a. ⌜ paperFound a ≡ nodeAnswer levelNext (now (words .entry)) n (now (nodes .entry)) block v ⌝ }
-    ensures { λ a. ⌜ WhereBuilt (now (words .entry)) n (now (nodes .entry)) block (paperFound a) (nodeDefined levelNext (now (words .entry)) n v) ⌝ }
+    ensures { λ a. ⌜ HandlePromise levelNext (now (words .entry)) n (now (nodes .entry)) block v (paperFound a) ⌝ }
 {
     match admit_node(words, n, nodes, block, v) {
         Gate::Refuse(e) => Found::Refused(e),
@@ -98,8 +100,7 @@ pub fn level_next(words: &[u64], n: usize, nodes: &[i64], block: usize, v: usize
 
 // Returns the previous outline node on the level of v: `open(j)` with j = bwd(v, 1).
 pub fn level_prev(words: &[u64], n: usize, nodes: &[i64], block: usize, v: usize) -> Found
-    ensures { λ a. ⌜ paperFound a ≡ nodeAnswer levelPrev (now (words .entry)) n (now (nodes .entry)) block v ⌝ }
-    ensures { λ a. ⌜ WhereBuilt (now (words .entry)) n (now (nodes .entry)) block (paperFound a) (nodeDefined levelPrev (now (words .entry)) n v) ⌝ }
+    ensures { λ a. ⌜ HandlePromise levelPrev (now (words .entry)) n (now (nodes .entry)) block v (paperFound a) ⌝ }
 {
     match admit_node(words, n, nodes, block, v) {
         Gate::Refuse(e) => Found::Refused(e),

@@ -6,14 +6,13 @@ ghost use mathlib.Core.Path.{_≡_};
 ghost use lib.IntN.{negsuc};
 ghost use Rattle.row.specs.Answer.{paperFound};
 ghost use Rattle.row.specs.Search.{fwd, bwd};
-ghost use Rattle.bp_spec.specs.SearchCalls.{fwdAnswer, bwdAnswer, outward, WhereBuilt};
+ghost use Rattle.bp_spec.specs.SearchCalls.{outward, FwdPromise, BwdPromise};
 use row::Found;
 use row::Gate;
 
 // Returns the smallest position j with i < j < n and E(j+1) = E(i+1) + r, or nothing.
 pub fn fwd_search(words: &[u64], n: usize, nodes: &[i64], block: usize, i: usize, r: i64) -> Found
-    ensures { λ a. ⌜ paperFound a ≡ fwdAnswer (now (words .entry)) n (now (nodes .entry)) block i r ⌝ }
-    ensures { λ a. ⌜ WhereBuilt (now (words .entry)) n (now (nodes .entry)) block (paperFound a) (fwd (now (words .entry)) n i r) ⌝ }
+    ensures { λ a. ⌜ FwdPromise (now (words .entry)) n (now (nodes .entry)) block i r (paperFound a) ⌝ }
 {
     match mmt_layout::admit(words.len(), n, nodes.len(), block) {
         Gate::Refuse(k) => Found::Refused(k),
@@ -23,8 +22,7 @@ pub fn fwd_search(words: &[u64], n: usize, nodes: &[i64], block: usize, i: usize
 
 // Returns the greatest position j with j < i and E(j) = E(i) + r, or nothing.
 pub fn bwd_search(words: &[u64], n: usize, nodes: &[i64], block: usize, i: usize, r: i64) -> Found
-    ensures { λ a. ⌜ paperFound a ≡ bwdAnswer (now (words .entry)) n (now (nodes .entry)) block i r ⌝ }
-    ensures { λ a. ⌜ WhereBuilt (now (words .entry)) n (now (nodes .entry)) block (paperFound a) (bwd (now (words .entry)) n i r) ⌝ }
+    ensures { λ a. ⌜ BwdPromise (now (words .entry)) n (now (nodes .entry)) block i r (paperFound a) ⌝ }
 {
     match mmt_layout::admit(words.len(), n, nodes.len(), block) {
         Gate::Refuse(k) => Found::Refused(k),
@@ -34,16 +32,14 @@ pub fn bwd_search(words: &[u64], n: usize, nodes: &[i64], block: usize, i: usize
 
 // Returns the position of the `)` that closes the `(` at i: fwd(i, -1).
 pub fn close(words: &[u64], n: usize, nodes: &[i64], block: usize, i: usize) -> Found
-    ensures { λ a. ⌜ paperFound a ≡ fwdAnswer (now (words .entry)) n (now (nodes .entry)) block i (negsuc 0) ⌝ }
-    ensures { λ a. ⌜ WhereBuilt (now (words .entry)) n (now (nodes .entry)) block (paperFound a) (fwd (now (words .entry)) n i (negsuc 0)) ⌝ }
+    ensures { λ a. ⌜ FwdPromise (now (words .entry)) n (now (nodes .entry)) block i (negsuc 0) (paperFound a) ⌝ }
 {
     fwd_search(words, n, nodes, block, i, -1)
 }
 
 // Returns the position of the `(` that the `)` at i closes: bwd(i, -1).
 pub fn open(words: &[u64], n: usize, nodes: &[i64], block: usize, i: usize) -> Found
-    ensures { λ a. ⌜ paperFound a ≡ bwdAnswer (now (words .entry)) n (now (nodes .entry)) block i (negsuc 0) ⌝ }
-    ensures { λ a. ⌜ WhereBuilt (now (words .entry)) n (now (nodes .entry)) block (paperFound a) (bwd (now (words .entry)) n i (negsuc 0)) ⌝ }
+    ensures { λ a. ⌜ BwdPromise (now (words .entry)) n (now (nodes .entry)) block i (negsuc 0) (paperFound a) ⌝ }
 {
     bwd_search(words, n, nodes, block, i, -1)
 }
@@ -64,8 +60,7 @@ fn out_of(words: &[u64], n: usize, i: usize) -> i64
 
 // Returns the open position of the pair around position i: bwd(i, -1) at an open bit of the row, bwd(i, -2) at any other position.
 pub fn enclose(words: &[u64], n: usize, nodes: &[i64], block: usize, i: usize) -> Found
-    ensures { λ a. ⌜ paperFound a ≡ bwdAnswer (now (words .entry)) n (now (nodes .entry)) block i (outward (now (words .entry)) n i) ⌝ }
-    ensures { λ a. ⌜ WhereBuilt (now (words .entry)) n (now (nodes .entry)) block (paperFound a) (bwd (now (words .entry)) n i (outward (now (words .entry)) n i)) ⌝ }
+    ensures { λ a. ⌜ BwdPromise (now (words .entry)) n (now (nodes .entry)) block i (outward (now (words .entry)) n i) (paperFound a) ⌝ }
 {
     bwd_search(words, n, nodes, block, i, out_of(words, n, i))
 }

@@ -20,9 +20,9 @@ use Rattle.row.specs.declared.answer.Found.{Found}
 use Rattle.mmt_layout.specs.Layout.{nodesGate, Fine}
 use Rattle.mmt_layout.proofs.Admitted.{gate-fine}
 use Rattle.bp_spec.proofs.Gates.{then-passed}
-use Rattle.bp_spec.specs.SearchCalls.{WhereBuilt}
+use Rattle.bp_spec.specs.SearchCalls.{Promise}
 use Rattle.bp_spec.specs.SearchPair.{Searches, walked, defined}
-use Rattle.bp_spec.specs.HandleCalls.{nodeAnswer, nodeDefined}
+use Rattle.bp_spec.specs.HandleCalls.{nodeAnswer, nodeDefined, HandlePromise}
 use Rattle.bp_spec.proofs.SearchesAgree.{call-defined}
 
 pub said : {f g : Found} {x : Answer} → paperFound f ≡ x → f ≡ g → x ≡ paperFound g
@@ -42,13 +42,13 @@ module _ (ws : List ℕ) (n : ℕ) (s : List ℤ) (B : ℕ) where
 
   module _ (h : Gate) (call : Searches → Answer) where
     abbrev pub GatedPromise : Answer → Type 0
-    GatedPromise a = (a ≡ through (andThen gate h) (call (walked ws n s B))) × WhereBuilt ws n s B a (through h (call (defined ws n)))
+    GatedPromise a = Promise ws n s B (through (andThen gate h) (call (walked ws n s B))) (through h (call (defined ws n))) a
 
     pub gates-refused : (k : Refusal) → andThen gate h ≡ Refuse k → GatedPromise (refused (numberOf k))
-    gates-refused k g = (rw g, λ o b. let e : h ≡ Refuse k = rw o at g in rw e)
+    gates-refused k g = record { answer = rw g; as-built = λ o b. let e : h ≡ Refuse k = rw o at g in rw e }
 
     pub gates-passed : (a : Answer) → andThen gate h ≡ Pass → a ≡ call (walked ws n s B) → GatedPromise a
-    gates-passed a g e = (rw g e, λ o b. rw (then-passed gate h g .1) (e ∙ call-defined ws n s B o b call))
+    gates-passed a g e = record { answer = rw g e; as-built = λ o b. rw (then-passed gate h g .1) (e ∙ call-defined ws n s B o b call) }
 
   -- ---- on one handle
   module _ (v : ℕ) where
@@ -57,13 +57,10 @@ module _ (ws : List ℕ) (n : ℕ) (s : List ℤ) (B : ℕ) where
     nodeGate = andThen gate (handleGate ws n v)
 
     module _ (call : List ℕ → ℕ → Searches → ℕ → Answer) where
-      abbrev pub HandlePromise : Answer → Type 0
-      HandlePromise a = (a ≡ nodeAnswer call ws n s B v) × WhereBuilt ws n s B a (nodeDefined call ws n v)
-
-      pub node-refused : (k : Refusal) → nodeGate ≡ Refuse k → HandlePromise (refused (numberOf k))
+      pub node-refused : (k : Refusal) → nodeGate ≡ Refuse k → HandlePromise call ws n s B v (refused (numberOf k))
       unfolding nodeAnswer nodeDefined
       node-refused = gates-refused (handleGate ws n v) (λ f. call ws n f v)
 
-      pub node-passed : (a : Answer) → nodeGate ≡ Pass → a ≡ call ws n (walked ws n s B) v → HandlePromise a
+      pub node-passed : (a : Answer) → nodeGate ≡ Pass → a ≡ call ws n (walked ws n s B) v → HandlePromise call ws n s B v a
       unfolding nodeAnswer nodeDefined
       node-passed = gates-passed (handleGate ws n v) (λ f. call ws n f v)

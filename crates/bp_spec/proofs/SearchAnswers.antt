@@ -29,16 +29,16 @@ use Rattle.mmt_layout.specs.Layout.{nodesGate}
 use Rattle.mmt_layout.proofs.Admitted.{gate-fine}
 use Rattle.walk_spec.specs.Walk.{walk}
 use Rattle.walk_spec.proofs.Right.{walk-forward, walk-backward}
-use Rattle.bp_spec.specs.SearchCalls.{searchAnswer, WhereBuilt, outward}
+use Rattle.bp_spec.specs.SearchCalls.{searchAnswer, Promise, outward}
 
 module _ (ws : List ℕ) (n : ℕ) (s : List ℤ) (B i : ℕ) (r : ℤ) where
   -- The promise of a search: a is the answer by the walk, and over nodes as built it equals the definition d.
   abbrev pub SearchPromise : Way → Answer → Answer → Type 0
-  SearchPromise w d a = (a ≡ searchAnswer w ws n s B i r) × WhereBuilt ws n s B a d
+  SearchPromise w d a = Promise ws n s B (searchAnswer w ws n s B i r) d a
 
   pub when-refused : (w : Way) (d : Answer) (k : Refusal) → nodesGate (length ws) n (length s) B ≡ Refuse k → SearchPromise w d (refused (numberOf k))
   unfolding searchAnswer
-  when-refused w d k g = (rw g, λ o b. let z : _≡_ {A = ℕ} 0 1 = cc in absurd (omega arith))
+  when-refused w d k g = record { answer = rw g; as-built = λ o b. let z : _≡_ {A = ℕ} 0 1 = cc in absurd (omega arith) }
 
   walked : (w : Way) (a : Answer) → nodesGate (length ws) n (length s) B ≡ Pass → a ≡ walk w ws n s B i r .answer → a ≡ searchAnswer w ws n s B i r
   unfolding searchAnswer
@@ -48,13 +48,14 @@ module _ (ws : List ℕ) (n : ℕ) (s : List ℤ) (B i : ℕ) (r : ℤ) where
   when-forward a g e =
       let f = gate-fine (length ws) n (length s) B g in
       let p = f .eight in
-      (walked forward a g e, λ o b. e ∙ walk-forward ws n s B (omega arith) (f .short) b i r)
+      record { answer = walked forward a g e; as-built = λ o b. e ∙ walk-forward ws n s B (omega arith) (f .short) b i r }
 
-  pub when-backward : (a : Answer) → nodesGate (length ws) n (length s) B ≡ Pass → a ≡ walk backward ws n s B i r .answer → SearchPromise backward (bwd ws n i r) a
+  pub when-backward : (a : Answer) → nodesGate (length ws) n (length s) B ≡ Pass → a ≡ walk backward ws n s B i r .answer
+      → SearchPromise backward (bwd ws n i r) a
   when-backward a g e =
       let f = gate-fine (length ws) n (length s) B g in
       let p = f .eight in
-      (walked backward a g e, λ o b. e ∙ walk-backward ws n s B (omega arith) (f .short) b i r)
+      record { answer = walked backward a g e; as-built = λ o b. e ∙ walk-backward ws n s B (omega arith) (f .short) b i r }
 
 -- A word past the end of the slice has only zero digits.
 zero-digit : (k : ℕ) → digit 0 k ≡ 0

@@ -11,7 +11,7 @@ use Rattle.row.specs.Answer.{Answer, at, nothing}
 use Rattle.row.specs.Gates.{handleGate, andThen, through}
 use Rattle.mmt_layout.specs.Layout.{nodesGate}
 use Rattle.bp_spec.specs.RowCalls.{told}
-use Rattle.bp_spec.specs.SearchCalls.{outward}
+use Rattle.bp_spec.specs.SearchCalls.{outward, Promise}
 use Rattle.bp_spec.specs.SearchPair.{Searches, walked, defined, onward, closeOf}
 
 module _ (ws : List ℕ) (n : ℕ) (s : Searches) where
@@ -36,3 +36,7 @@ ancestorAnswer ws n s B a d = through (andThen (nodesGate (length ws) n (length 
 -- `is_ancestor` by definition: refusal 5, then the call by the searches by definition.
 unfoldable pub ancestorDefined : List ℕ → ℕ → ℕ → ℕ → Answer
 ancestorDefined ws n a d = through (bothGate ws n a d) (isAncestor ws n (defined ws n) a d)
+
+-- The promise of `is_ancestor`.
+abbrev pub AncestorPromise : List ℕ → ℕ → List ℤ → ℕ → ℕ → ℕ → Answer → Type 0
+AncestorPromise ws n s B a d = Promise ws n s B (ancestorAnswer ws n s B a d) (ancestorDefined ws n a d)

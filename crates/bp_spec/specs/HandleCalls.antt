@@ -8,6 +8,7 @@ use Rattle.row.specs.Answer.{Answer}
 use Rattle.row.specs.Gates.{handleGate, andThen, through}
 use Rattle.mmt_layout.specs.Layout.{nodesGate}
 use Rattle.bp_spec.specs.SearchPair.{Searches, walked, defined}
+use Rattle.bp_spec.specs.SearchCalls.{Promise}
 
 -- A call on a handle over any nodes: refusals 1 to 5, then the call by the walk.
 unfoldable pub nodeAnswer : (List ℕ → ℕ → Searches → ℕ → Answer) → List ℕ → ℕ → List ℤ → ℕ → ℕ → Answer
@@ -16,3 +17,7 @@ nodeAnswer call ws n s B v = through (andThen (nodesGate (length ws) n (length s
 -- A call on a handle by definition: refusal 5, then the call by the searches by definition.
 unfoldable pub nodeDefined : (List ℕ → ℕ → Searches → ℕ → Answer) → List ℕ → ℕ → ℕ → Answer
 nodeDefined call ws n v = through (handleGate ws n v) (call ws n (defined ws n) v)
+
+-- The promise of a call on a handle.
+abbrev pub HandlePromise : (List ℕ → ℕ → Searches → ℕ → Answer) → List ℕ → ℕ → List ℤ → ℕ → ℕ → Answer → Type 0
+HandlePromise call ws n s B v = Promise ws n s B (nodeAnswer call ws n s B v) (nodeDefined call ws n v)

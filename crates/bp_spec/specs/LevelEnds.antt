@@ -14,6 +14,7 @@ use Rattle.mmt_layout.specs.Layout.{nodesGate}
 use Rattle.mmt_node.specs.Nodes.{nodeAt}
 use Rattle.walk_spec.specs.Walk.{fits}
 use Rattle.bp_spec.specs.SearchPair.{Searches, walked, defined, onward, openOf}
+use Rattle.bp_spec.specs.SearchCalls.{Promise}
 
 module _ (ws : List ℕ) (n : ℕ) (s : Searches) where
   -- `level_leftmost(k)` is fwd(0, k), except that level 0 of a row with n > 0 gives 0.
@@ -57,3 +58,10 @@ rightmostAnswer ws n s B k = through (nodesGate (length ws) n (length s) B) (lev
 -- `level_rightmost` by definition, which starts at 2*ones - 1.
 unfoldable pub rightmostDefined : List ℕ → ℕ → ℕ → Answer
 rightmostDefined ws n k = levelRightmost ws n (defined ws n) (lastStart ws n) k
+
+-- The promise of a call on a level, and of `level_rightmost`.
+abbrev pub LevelPromise : (List ℕ → ℕ → Searches → ℕ → Answer) → List ℕ → ℕ → List ℤ → ℕ → ℕ → Answer → Type 0
+LevelPromise call ws n s B k = Promise ws n s B (levelAnswer call ws n s B k) (call ws n (defined ws n) k)
+
+abbrev pub RightmostPromise : List ℕ → ℕ → List ℤ → ℕ → ℕ → Answer → Type 0
+RightmostPromise ws n s B k = Promise ws n s B (rightmostAnswer ws n s B k) (rightmostDefined ws n k)

@@ -2,6 +2,7 @@
 ghost use mathlib.Core.Path.{_≡_};
 ghost use Prim.Native.Nat.{_*_, _≤_};
 ghost use lib.ListN.{length};
+ghost use Rattle.row.specs.Writes.{Writes};
 ghost use Rattle.row.specs.Answer.{at};
 ghost use Rattle.row.specs.Gates.{through};
 ghost use Rattle.text.specs.Text.{textGate};
@@ -13,8 +14,11 @@ use row::Refusal;
 // Reads the text into `words`, then writes the words that the bits need to the front of `row`.
 fn read_through(text: &[u8], words: &mut [u64], row: &mut [u8]) -> i64
     requires { ⌜ 8 * length (now words) ≤ length (now row) ⌝ }
-    ensures { λ a. ⌜ a ≡ wireOf (through (textGate (now (text .entry)) (length (now (words .entry)))) (at (length (now (text .entry))))) ⌝ }
-    ensures { λ a. ⌜ now (row .exit) ≡ leftRow (textGate (now (text .entry)) (length (now (words .entry)))) (now (text .entry)) (now (row .entry)) ⌝ }
+    ensures { λ a.
+        ⌜
+        Writes a (wireOf (through (textGate (now (text .entry)) (length (now (words .entry)))) (at (length (now (text .entry))))))
+        (now (row .exit)) (leftRow (textGate (now (text .entry)) (length (now (words .entry)))) (now (text .entry)) (now (row .entry)))
+        ⌝ }
 {
     match text::read_text(text, words) {
         Read::Refused(k) => wire::refused(k),
@@ -28,8 +32,11 @@ fn read_through(text: &[u8], words: &mut [u64], row: &mut [u8]) -> i64
 // Reads a text of at most 4,096 bytes into `row` and returns the bit count. Bytes after the needed words are unchanged; a refusal leaves all
 // bytes unchanged.
 pub fn read_text(text: &[u8], row: &mut [u8]) -> i64
-    ensures { λ a. ⌜ a ≡ readWire (now (text .entry)) (now (row .entry)) ⌝ }
-    ensures { λ a. ⌜ now (row .exit) ≡ readBytes (now (text .entry)) (now (row .entry)) ⌝ }
+    ensures { λ a.
+        ⌜
+        Writes a (readWire (now (text .entry)) (now (row .entry)))
+        (now (row .exit)) (readBytes (now (text .entry)) (now (row .entry)))
+        ⌝ }
 {
     if row::MAX_SHORT_BITS < text.len() {
         return wire::refused(Refusal::TooManyBits);

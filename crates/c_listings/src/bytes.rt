@@ -6,6 +6,7 @@
 ghost use mathlib.Core.Path.{_≡_};
 ghost use Prim.Native.Nat.{_*_, _/_, _≤_};
 ghost use lib.ListN.{length};
+ghost use Rattle.row.specs.Writes.{Writes};
 ghost use Rattle.wire.specs.Answer.{wireOf};
 ghost use Rattle.wire.specs.Limit.{wireBits};
 ghost use Rattle.list_slice.specs.WholeListing.{countOf};
@@ -24,11 +25,11 @@ fn put_listing(
     out: &mut [u8],
 ) -> i64
     requires { ⌜ 8 * length (now answers) ≤ length (now out) ⌝ }
-    ensures { λ a. ⌜ a ≡ wireOf (countOf rising (now (words .entry)) n (now (nodes .entry)) block node (length (now (answers .entry)))) ⌝ }
     ensures { λ a.
         ⌜
-        now (out .exit)
-        ≡ listedBytes rising (now (words .entry)) n (now (nodes .entry)) block node (length (now (answers .entry))) (now (out .entry))
+        Writes a (wireOf (countOf rising (now (words .entry)) n (now (nodes .entry)) block node (length (now (answers .entry)))))
+        (now (out .exit))
+        (listedBytes rising (now (words .entry)) n (now (nodes .entry)) block node (length (now (answers .entry))) (now (out .entry)))
         ⌝ }
 {
     match list_slice::list(words, n, nodes, block, rising, node, answers) {
@@ -52,14 +53,9 @@ fn list_decoded(
 ) -> i64
     ensures { λ a.
         ⌜
-        a
-        ≡ wireOf (countOf rising (now (words .entry)) (wireBits bits) (now (nodes .entry)) block node (length (now (out .entry)) / 8))
-        ⌝ }
-    ensures { λ a.
-        ⌜
-        now (out .exit)
-        ≡ listedBytes rising (now (words .entry)) (wireBits bits) (now (nodes .entry)) block node (length (now (out .entry)) / 8)
-        (now (out .entry))
+        Writes a (wireOf (countOf rising (now (words .entry)) (wireBits bits) (now (nodes .entry)) block node (length (now (out .entry)) / 8)))
+        (now (out .exit))
+        (listedBytes rising (now (words .entry)) (wireBits bits) (now (nodes .entry)) block node (length (now (out .entry)) / 8) (now (out .entry)))
         ⌝ }
 {
     let mut answers = [0i64; wire::ANSWERS];
@@ -86,8 +82,11 @@ pub fn to_bytes(
     node: u64,
     out: &mut [u8],
 ) -> i64
-    ensures { λ a. ⌜ a ≡ listWire rising (now (row .entry)) bits (now (nodes .entry)) block node (now (out .entry)) ⌝ }
-    ensures { λ a. ⌜ now (out .exit) ≡ listLeft rising (now (row .entry)) bits (now (nodes .entry)) block node (now (out .entry)) ⌝ }
+    ensures { λ a.
+        ⌜
+        Writes a (listWire rising (now (row .entry)) bits (now (nodes .entry)) block node (now (out .entry)))
+        (now (out .exit)) (listLeft rising (now (row .entry)) bits (now (nodes .entry)) block node (now (out .entry)))
+        ⌝ }
 {
     let mut words = [0u64; wire::WORDS];
     let mut numbers = [0i64; wire::NUMBERS];

@@ -4,6 +4,7 @@
 // A refused constructor leaves all entries unchanged.
 ghost use mathlib.Core.Path.{_≡_};
 ghost use lib.ListN.{length};
+ghost use Rattle.row.specs.Writes.{Writes};
 ghost use Rattle.wire.specs.Answer.{wireOf};
 ghost use Rattle.list_slice.specs.WholeListing.{countOf, leftOf};
 use list_slice::Listed;
@@ -18,8 +19,11 @@ pub fn to_numbers(
     node: u64,
     out: &mut [i64],
 ) -> i64
-    ensures { λ a. ⌜ a ≡ wireOf (countOf rising (now (words .entry)) bits (now (nodes .entry)) block node (length (now (out .entry)))) ⌝ }
-    ensures { λ a. ⌜ now (out .exit) ≡ leftOf rising (now (words .entry)) bits (now (nodes .entry)) block node (now (out .entry)) ⌝ }
+    ensures { λ a.
+        ⌜
+        Writes a (wireOf (countOf rising (now (words .entry)) bits (now (nodes .entry)) block node (length (now (out .entry)))))
+        (now (out .exit)) (leftOf rising (now (words .entry)) bits (now (nodes .entry)) block node (now (out .entry)))
+        ⌝ }
 {
     match list_slice::list(
         words,

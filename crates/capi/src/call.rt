@@ -2,6 +2,7 @@
 ghost use mathlib.Core.Path.{_≡_};
 ghost use Prim.Native.Nat.{_*_, _≤_};
 ghost use lib.ListN.{length};
+ghost use Rattle.row.specs.Writes.{Writes};
 ghost use Rattle.row.specs.Limits.{maxBits};
 ghost use Rattle.row.specs.Answer.{at};
 ghost use Rattle.row.specs.Gates.{through};
@@ -22,8 +23,11 @@ fn node_numbers(n: usize, block: usize) -> usize
 // Builds in `numbers`, then writes the node numbers to the front of `bytes`.
 pub fn build(words: &[u64], n: usize, numbers: &mut [i64], block: usize, bytes: &mut [u8]) -> i64
     requires { ⌜ 8 * length (now numbers) ≤ length (now bytes) ⌝ }
-    ensures { λ r. ⌜ r ≡ wireOf (through (nodesGate (length (now (words .entry))) n (length (now (numbers .entry))) block) (at 0)) ⌝ }
-    ensures { λ r. ⌜ now (bytes .exit) ≡ leftBytes (now (words .entry)) n (length (now (numbers .entry))) block (now (bytes .entry)) ⌝ }
+    ensures { λ r.
+        ⌜
+        Writes r (wireOf (through (nodesGate (length (now (words .entry))) n (length (now (numbers .entry))) block) (at 0)))
+        (now (bytes .exit)) (leftBytes (now (words .entry)) n (length (now (numbers .entry))) block (now (bytes .entry)))
+        ⌝ }
 {
     match mmt_build::build(words, n, numbers, block) {
         Built::Refused(k) => wire::refused(k),

@@ -3,6 +3,7 @@
 // The passed bytes are decoded into arrays, as much as fits; no row of 4,096 bits needs more. A call over the arrays then tests and answers.
 // A row of more than 4,096 bits is refusal 2. Only a successful build writes.
 ghost use mathlib.Core.Path.{_≡_};
+ghost use Rattle.row.specs.Writes.{Writes};
 ghost use Rattle.bp_spec.specs.declared.question.Question.the-variants.{Close, Enclose, IsAncestor};
 ghost use Rattle.bp_spec.specs.Questions.{promised};
 ghost use Rattle.c_dispatch.specs.Bytes.{byteAnswer};
@@ -15,8 +16,11 @@ mod call;
 // Builds the min-max nodes of the row and writes them to `nodes`. Bytes after the nodes are unchanged; a refusal leaves all bytes unchanged.
 #[no_mangle]
 pub extern "C" fn bp_build(row: &[u8], bits: u64, nodes: &mut [u8], block: u64) -> i64
-    ensures { λ r. ⌜ r ≡ buildWire (now (row .entry)) bits (now (nodes .entry)) block ⌝ }
-    ensures { λ r. ⌜ now (nodes .exit) ≡ builtBytes (now (row .entry)) bits (now (nodes .entry)) block ⌝ }
+    ensures { λ r.
+        ⌜
+        Writes r (buildWire (now (row .entry)) bits (now (nodes .entry)) block)
+        (now (nodes .exit)) (builtBytes (now (row .entry)) bits (now (nodes .entry)) block)
+        ⌝ }
 {
     let mut words = [0u64; wire::WORDS];
     let mut numbers = [0i64; wire::NUMBERS];

@@ -1,6 +1,6 @@
--- Two answers of the code with the same specification answer are equal, because the map to specification answers has an inverse.
---   refusalOf, refusal-of: the refusal with a number
---   found-of, told-of, built-of, read-of, gate-of, listed-of, listing-of: the inverse of each map, one law per answer type
+-- Two answers of the code with the same specification answer are equal, because each map to specification answers has an inverse.
+--   refusalOf, foundOf, toldOf, builtOf, readOf, gateOf, listedOf, listingOf, madeOf, stepOf: the inverses
+--   refusal-of, found-of, told-of, built-of, read-of, gate-of, listed-of, listing-of: each of them undoes its map
 --   determined: a map with an inverse has at most one value with the image d
 --   one-found, one-told, one-built, one-read, one-listed, one-made, one-step: so at most one answer of each type satisfies a promise
 -- Assumes nothing.

@@ -1,7 +1,8 @@
--- Calls that go from each number to the next one that passes a test name all such numbers, rising, and then nothing. Calls that go to the
--- last one before name the same numbers in reverse.
+-- If each call goes to the next number that passes a test, the calls name all such numbers, rising, and then nothing. If each call goes to the
+-- last such number before, the calls name the same numbers in reverse.
 --   onward, rises: forward, by induction on the numbers left
---   those-end: the list of one number more; back, falls: backward, by induction on the numbers left
+--   those-end: the list for m + 1 numbers is that for the first m and then that for the last
+--   back, falls: backward, by induction on the numbers left
 -- Assumes nothing.
 use mathlib.Core.Path.{_≡_, refl, ap, _∙_}
 use mathlib.Core.Bool.{Bool, true, false}

@@ -1,4 +1,5 @@
--- In a row that is one tree the child calls by definition go to the next child, or to the last one before, of a handle v with the close c.
+-- In a row that is one tree, let c be the close of a handle v. The child calls by definition go to the next child of v, or to the last child
+-- before.
 --   Kid, kid, is-kid, no-kid, between: what `childOf` means
 --   low, v-up, leaf, deeper, first-child: position v + 1 is a child of v or the close of v
 --   inner, under, still, ended, after-close, next-sibling: the position after the close of a child is a child of v or the close of v
@@ -156,7 +157,7 @@ module _ (ws : List ℕ) (n : ℕ) (t : OneTree ws n) (v c : ℕ) (o : Handle ws
       (λ x p q. between x p (omega arith))
       ∙ sym (prev-skip (childOf ws n v) y m l (λ x p q. no-kid x (f x p q)))
 
-  -- The excess before the close of v; and the bit before the close, if it is not v itself.
+  -- The excess before the close c is E(v) + 1; and the bit before c is a close bit, if it is not the bit at v.
   c-deep : E ws c ≡ E ws v +ℤ pos 1
   c-deep =
       let r = d .right in
@@ -172,7 +173,7 @@ module _ (ws : List ℕ) (n : ℕ) (t : OneTree ws n) (v c : ℕ) (o : Handle ws
         | inr u ↦ u
       ]
 
-  -- No position has an open bit and a close bit.
+  -- No position has both an open bit and a close bit.
   clash : (x y : ℕ) → x ≡ y → opens ws n x ≡ true → opens ws n y ≡ false → ⊥
   clash x y q a b = never-true (sym b ∙ ap (opens ws n) (sym q) ∙ a)
 

@@ -1,5 +1,5 @@
 -- In a row that is one tree every handle has a close, and `open` from an excess of k + 1 answers the last handle of depth k.
---   bwd-prev: a backward search is the last position below its start with the searched excess
+--   bwd-prev: a backward search answers the last position below its start with the searched excess
 --   open-deep: `open` from an excess of k + 1
 --   E-zero, nonneg: the excess is 0 at the start and never negative
 --   Closed, closing: the close of a handle; up to it the excess stays above that of the handle

@@ -116,8 +116,8 @@ module _ (ws : List ℕ) (n : ℕ) where
     unfolding levelRightmost
     rightmost k three = go (ltb n k) refl
       where
-        -- No handle of depth k is n - 1 or n - 2. Position n - 1 is the close of the root. A handle n - 2 would have depth 0, so it would be the
-        -- root, and n would be 2.
+        -- Neither n - 1 nor n - 2 is a handle of depth k. Position n - 1 is the close of the root. A handle n - 2 would have depth 0. So it
+        -- would be the root, and n would be 2.
         past : (y : ℕ) → n - 1 ≤ suc y → y < n → Stands ws n (pos k) y → ⊥
         past y a b s = elim (decLt (suc y) n) [
           | yes c ↦ (let w : suc y ≡ n - 1 = omega arith in

@@ -1,6 +1,6 @@
--- Proof of demand 3. By `rises` and `falls` (CallChains) calls name a whole list if each of them goes to the next entry, or to the last one
--- before. The level calls do so for the handles of a depth (Levels), and the child calls for the children (Children). Over nodes as built the
--- calls answer their definitions (Second).
+-- Proof of demand 3. Calls name a whole list if each goes to the next entry, or each to the last entry before (CallChains). The level calls do
+-- so for the handles of a depth (Levels), and the child calls for the children (Children). Over nodes as built the calls answer their
+-- definitions (Second).
 --   passed, on-handle: the gate of a handle passes, so a call by definition on a handle is not refused
 --   shallow: if every handle is less deep than k, no handle has depth k
 --   by: what a call on a handle answers

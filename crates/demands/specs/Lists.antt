@@ -1,4 +1,5 @@
--- SCOPE, The demands: the words of demand 3. Calls name positions one after another; a list has exactly the numbers that pass a test.
+-- SCOPE, The demands: terms of demand 3. `Names`: calls name the positions of a list one after another. `Exactly`: a list has exactly the
+-- numbers that pass a test.
 -- Assumes nothing.
 use mathlib.Core.Path.{_≡_}
 use mathlib.Core.Bool.{Bool, true, cond}

@@ -1,5 +1,5 @@
 -- Rules with which `omega` proves linear facts about integers. `omega` knows only naturals, so an integer z is written as
--- `up z - dn z`, a difference of two naturals. Both are `abbrev`, so they compute on `pos n`, on `negsuc n` and on literals.
+-- `up z - dn z`, a difference of two naturals. `up` and `dn` are `abbrev`, so they compute on `pos n`, `negsuc n` and literals.
 --   plus, minus: `a +ℤ b` (`a -ℤ b`) as an equation between naturals; `omega` needs one for each sum (difference) in a goal
 --   diff: the same for `subℕ a b`, to which sums and differences of known signs compute
 --   plus-size, minus-size: |a + b| and |a - b| are at most |a| + |b|
@@ -10,7 +10,7 @@
 --   back: encoding z in 64 bits and decoding it gives z again, if z fits into an i64
 --   bits-≡: two numbers that fit into an i64 and have the same 64 bits are equal
 --   never-true, never-false: `false ≡ true` and `true ≡ false` are contradictions
---   zlin: the rules that `omega` applies without being given a term
+--   zlin: the list of rules for `omega`; it is without `plus`, `minus` and `diff`, which have to be given their terms
 -- Assumes nothing.
 use mathlib.Core.Path.{_≡_, refl, sym, ap, _∙_, subst}
 use mathlib.Core.Bool.{Bool, true, false, not, cond}

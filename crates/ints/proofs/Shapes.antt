@@ -85,4 +85,5 @@ to-fits-m a b h = omega (arith, to-fits, minus a b)
 pub to-fits-p : (a b : ℤ) → ((up a + up b) - (dn a + dn b)) + ((dn a + dn b) - suc (up a + up b)) < 2 ^ 63 → SFits w64 (a +ℤ b)
 to-fits-p a b h = omega (arith, to-fits, plus a b)
 
-pub ruleset zsum = (of-≡-mv, of-≡-pp, of-≡-pv, of-≡-vm, of-≡-vp, of-≤-pp, of-≤-pv, of-≤-vp, leZ-true-pv, leZ-true-vp, leZ-false-pv, leZ-false-vp, to-≡-mv, to-≡-pp, to-≡-pv, to-≡-vm, to-≡-vp, to-≤-pp, to-≤-pv, to-≤-vp, to-fits-m, to-fits-p, zlin)
+pub ruleset zsum =
+    (of-≡-mv, of-≡-pp, of-≡-pv, of-≡-vm, of-≡-vp, of-≤-pp, of-≤-pv, of-≤-vp, leZ-true-pv, leZ-true-vp, leZ-false-pv, leZ-false-vp, to-≡-mv, to-≡-pp, to-≡-pv, to-≡-vm, to-≡-vp, to-≤-pp, to-≤-pv, to-≤-vp, to-fits-m, to-fits-p, zlin)

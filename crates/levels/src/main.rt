@@ -1,4 +1,5 @@
-// Reads one tree as parentheses from standard input and prints its nodes by level. It is run on document 01's input.
+// Reads one tree as parentheses from standard input and prints its outline nodes level by level.
+// CI runs it on the example of SCOPE, The program `levels`.
 use libc::STDIN_FILENO;
 
 fn main() {

@@ -16,6 +16,7 @@ use native.Mathlib.Numerals.{add-one}
 use lib.IntN.{ℤ}
 use lib.ListN.{length, take, drop, set, length-set, take-append-drop, length-map}
 use lib.Seq.{length-take-le, take-suc-set, drop-drop, drop-set-lt}
+use Rattle.row.specs.Writes.{Writes}
 use Rattle.row.specs.Limits.{maxBits}
 use Rattle.row.specs.Answer.{Answer, at, nothing, refused}
 use Rattle.wire.specs.Answer.{wireOf, Small}
@@ -110,15 +111,15 @@ module _ (next : Answer → Answer) where
 module _ (rising : Bool) (ws : List ℕ) (n : ℕ) (s : List ℤ) (B v : ℕ) (out : List ℤ) where
   -- The promise of `list` about its answer a and the slice t that it leaves.
   abbrev pub ListPromise : Answer → List ℤ → Type 0
-  ListPromise a t = (a ≡ countOf rising ws n s B v (length out)) × (t ≡ leftOf rising ws n s B v out)
+  ListPromise a t = Writes a (countOf rising ws n s B v (length out)) t (leftOf rising ws n s B v out)
 
   pub list-refused : (m : ℕ) → sought rising ws n s B v ≡ refused m → ListPromise (refused m) out
   unfolding countOf leftOf
-  list-refused m e = (rw e, rw e)
+  list-refused m e = record { answer = rw e; slice = rw e }
 
   pub list-passed : (a : Answer) (i : ℕ) (t : List ℤ) → a ≡ sought rising ws n s B v → Unrefused a → Wrote (heldAfter rising ws n s B) a out t i
       → ListPromise (at i) t
   unfolding countOf leftOf
-  list-passed (at w) i t e u h = rw (sym e) (ap at (h .count), h .left)
-  list-passed nothing i t e u h = rw (sym e) (ap at (h .count), h .left)
+  list-passed (at w) i t e u h = record { answer = rw (sym e) (ap at (h .count)); slice = rw (sym e) (h .left) }
+  list-passed nothing i t e u h = record { answer = rw (sym e) (ap at (h .count)); slice = rw (sym e) (h .left) }
   list-passed (refused m) i t e u h = absurd u

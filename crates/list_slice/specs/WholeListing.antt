@@ -3,12 +3,13 @@
 use mathlib.Core.Path.{_≡_}
 use mathlib.Core.Bool.{Bool, true, false}
 use mathlib.Core.List.{List, [], _∷_, _++_, map}
-use Prim.Native.Nat.{ℕ, zero, suc}
+use Prim.Native.Nat.{ℕ, zero, suc, _≤_}
 use lib.IntN.{ℤ}
 use lib.ListN.{length, drop}
+use Rattle.row.specs.Limits.{maxBits}
 use Rattle.row.specs.Answer.{Answer, at, nothing, refused, numberOf}
 use Rattle.wire.specs.Answer.{wireOf}
-use Rattle.list_slice.specs.Seek.{sought, heldAfter}
+use Rattle.list_slice.specs.Seek.{sought, heldAfter, Below}
 use Rattle.list_slice.specs.declared.write.Listed.{Listed}
 use Rattle.list_slice.specs.declared.write.Listed.the-variants.{Count, Refused}
 
@@ -32,6 +33,11 @@ answers next (suc c) a = a ∷ unlessEnded a (answers next c (next a))
 -- The slice s with its front overwritten by l and the rest unchanged.
 abbrev pub overlaid : List ℤ → List ℤ → List ℤ
 overlaid l s = l ++ drop (length l) s
+
+-- The answer a can be written: the row has at most 2^32 bits, and if a is a position, it is one of the row.
+pub record Writable (n : ℕ) (a : Answer) : Type 0 where
+  pub short : n ≤ maxBits
+  pub below : Below n a
 
 -- The answers from a on are written to the slice s, as numbers of the wire; the slice then is t, and i answers were written.
 pub record Wrote (next : Answer → Answer) (a : Answer) (s t : List ℤ) (i : ℕ) : Type 0 where

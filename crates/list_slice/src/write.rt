@@ -3,12 +3,11 @@
 // The answers of the steps are written in order, as the C functions number them. A refused constructor leaves the slice unchanged.
 // No function here takes a struct with references, so none needs the hand-written proofs of the crate list_struct.
 ghost use mathlib.Core.Path.{_≡_};
-ghost use Prim.Native.Nat.{_≤_};
 ghost use lib.ListN.{length};
-ghost use Rattle.row.specs.Limits.{maxBits};
+ghost use Rattle.row.specs.Writes.{Writes};
 ghost use Rattle.row.specs.Answer.{paperFound};
-ghost use Rattle.list_slice.specs.Seek.{sought, heldAfter, Starts, Below};
-ghost use Rattle.list_slice.specs.WholeListing.{isNothing, Wrote, countOf, leftOf, paperListed};
+ghost use Rattle.list_slice.specs.Seek.{sought, heldAfter, Starts};
+ghost use Rattle.list_slice.specs.WholeListing.{isNothing, Writable, Wrote, countOf, leftOf, paperListed};
 use crate::seek::Start;
 use row::Found;
 use row::Gate;
@@ -52,7 +51,7 @@ fn write_steps(
     first: Found,
     out: &mut [i64],
 ) -> usize
-    requires { ⌜ (n ≤ maxBits) × Below n (paperFound first) ⌝ }
+    requires { ⌜ Writable n (paperFound first) ⌝ }
     ensures { λ i. ⌜ Wrote (heldAfter rising (now (words .entry)) n (now (nodes .entry)) block) (paperFound first) (now (out .entry)) (now (out .exit)) i ⌝ }
 {
     let mut held = first;
@@ -78,8 +77,11 @@ pub fn list(
     v: usize,
     out: &mut [i64],
 ) -> Listed
-    ensures { λ a. ⌜ paperListed a ≡ countOf rising (now (words .entry)) n (now (nodes .entry)) block v (length (now (out .entry))) ⌝ }
-    ensures { λ a. ⌜ now (out .exit) ≡ leftOf rising (now (words .entry)) n (now (nodes .entry)) block v (now (out .entry)) ⌝ }
+    ensures { λ a.
+        ⌜
+        Writes (paperListed a) (countOf rising (now (words .entry)) n (now (nodes .entry)) block v (length (now (out .entry))))
+        (now (out .exit)) (leftOf rising (now (words .entry)) n (now (nodes .entry)) block v (now (out .entry)))
+        ⌝ }
 {
     let s = start(words, n, nodes, block, rising, v);
     let gate = s.gate;

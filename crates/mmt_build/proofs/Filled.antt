@@ -1,4 +1,4 @@
--- The node buffer during a build: after one more block leaf, after one more inner node, and after the part of the block leaves returns.
+-- The node buffer during a build: one more block leaf is filled, the part of the block leaves is put back, one more inner node is filled.
 --   filled-more: one more block leaf is filled
 --   leveled-start: no inner node is filled yet
 --   leveled-down: one more inner node is filled
@@ -31,7 +31,8 @@ use Rattle.mmt_node.proofs.Nodes.{from-leaf, from-ext, put-length, node-put, ot
 use Rattle.mmt_node.proofs.Written.{ruled-of, written-is}
 
 -- ---- block leaves
-pub filled-more : (ws : List ℕ) (n B b : ℕ) (part : List ℤ) (x : Summary) → width * (b + 1) ≤ length part → x ≡ leafOf ws n B b → Filled ws n B b part → Filled ws n B (b + 1) (withNode part b x)
+pub filled-more : (ws : List ℕ) (n B b : ℕ) (part : List ℤ) (x : Summary) → width * (b + 1) ≤ length part → x ≡ leafOf ws n B b
+    → Filled ws n B b part → Filled ws n B (b + 1) (withNode part b x)
 filled-more ws n B b part x h e f j l = elim (decLt j b) [
   | yes p ↦ node-other part b x j (λ q. omega arith) ∙ f j p
   | no p ↦ (let q : j ≡ b = omega arith in rw q (node-put part b x h ∙ e))
@@ -52,7 +53,8 @@ module _ (ws : List ℕ) (n : ℕ) (s t : List ℤ) (B : ℕ) (k : ℕ) (x : Sum
       later : (j : ℕ) → k ≤ j → nodeFrom ws n B (nodeAt t) j ≡ nodeFrom ws n B (nodeAt (withNode t k x)) j
       later j l = from-ext ws n B j (nodeAt t) (nodeAt (withNode t k x)) (λ g p q. sym (node-other t k x g (λ y. omega arith)))
 
-  pub leveled-down : width * count n B ≤ length t → k < count n B → x ≡ nodeFrom ws n B (nodeAt t) k → Leveled ws n s B (k + 1) t → Leveled ws n s B k (withNode t k x)
+  pub leveled-down : width * count n B ≤ length t → k < count n B → x ≡ nodeFrom ws n B (nodeAt t) k → Leveled ws n s B (k + 1) t
+      → Leveled ws n s B k (withNode t k x)
   leveled-down h l e f = record {
     nodes = put-rule (omega arith) e (f .nodes);
     past = λ i m. other-number t k x i (λ q. omega arith) (λ q. omega arith) (λ q. omega arith) ∙ f .past i m;
@@ -103,7 +105,8 @@ pub leveled-on : (ws : List ℕ) (n : ℕ) (s t u : List ℤ) (B : ℕ) (k j : �
 leveled-on ws n s t u B k j f g = record { nodes = g .nodes; past = λ i l. g .past i l ∙ f .past i l; same = g .same ∙ f .same }
 
 module _ (ws : List ℕ) (n : ℕ) (s : List ℤ) (B : ℕ) (long : width * count n B ≤ length s) where
-  pub leaves-leveled : 0 < B → (a c : ℕ) (ys : List ℤ) → a ≡ width * inner n B → a + c ≡ width * count n B → length ys ≡ c → Filled ws n B (leaves n B) ys → Leveled ws n s B (inner n B) (back a c s ys)
+  pub leaves-leveled : 0 < B → (a c : ℕ) (ys : List ℤ) → a ≡ width * inner n B → a + c ≡ width * count n B → length ys ≡ c
+      → Filled ws n B (leaves n B) ys → Leveled ws n s B (inner n B) (back a c s ys)
   leaves-leveled pB a c ys p q e f = record {
     nodes = λ j o i.
         let b = j - inner n B in

@@ -8,8 +8,7 @@
 --   start: `Checked` before the loop
 --   down, differs: the next node passes, so `Checked` goes on; or it fails, so the answer is no
 --   done: all nodes have passed, so the answer is yes
---   AsBuiltPromise: the promise of `as_built`
---   when-refused, when-built, when-not: the promise holds for a refusal, for yes and for no
+--   when-refused, when-built, when-not: the promise of `as_built` holds for a refusal, for yes and for no
 -- Assumes nothing.
 use mathlib.Core.Path.{_≡_, refl, sym, ap, _∙_}
 use mathlib.Core.Bool.{Bool, true, false, _&&_, and-assoc, true≢false}
@@ -33,7 +32,7 @@ use Rattle.row.proofs.Tree.{all-each, each-all}
 use Rattle.bits_stretch.specs.declared.summary.Summary.{Summary}
 use Rattle.mmt_layout.specs.Layout.{width, count, nodesGate}
 use Rattle.mmt_node.specs.Nodes.{nodeAt, nodeFrom, Ruled, AsBuilt}
-use Rattle.mmt_build.specs.Check.{sameSummary, builtTest, asBuiltAnswer, DecidesBuilt}
+use Rattle.mmt_build.specs.Check.{sameSummary, builtTest, asBuiltAnswer, DecidesBuilt, AsBuiltPromise}
 use Rattle.mmt_layout.proofs.Admitted.{gate-fine}
 
 -- ---- the comparison of two nodes
@@ -110,23 +109,34 @@ module _ (ws : List ℕ) (n : ℕ) (s : List ℤ) (B : ℕ) where
   done k z c = sym (rw z at (c .below))
 
 -- ---- the promise of the call
-abbrev pub AsBuiltPromise : List ℕ → ℕ → List ℤ → ℕ → Told → Type 0
-AsBuiltPromise ws n s B a = (paperTold a ≡ asBuiltAnswer ws n s B) × DecidesBuilt ws n s B a
-
 module _ (ws : List ℕ) (n : ℕ) (s : List ℤ) (B : ℕ) where
   abbrev gate : Gate
   gate = nodesGate (length ws) n (length s) B
 
   pub when-refused : (k : Refusal) → gate ≡ Refuse k → AsBuiltPromise ws n s B (Refused k)
   unfolding asBuiltAnswer
-  when-refused k g = (rw g, record { yes = λ o b. cc; built = λ e. let z : _≡_ {A = ℕ} 0 1 = cc in absurd (omega arith); no = λ o b. cc })
+  when-refused k g = record {
+    answer = rw g;
+    decides = record {
+      yes = λ o b. cc;
+      built = λ e. let z : _≡_ {A = ℕ} 0 1 = cc in absurd (omega arith);
+      no = λ o b. cc;
+    };
+  }
 
   pub when-built : gate ≡ Pass → builtTest ws n s B ≡ true → AsBuiltPromise ws n s B Yes
   unfolding asBuiltAnswer
   when-built g t =
       let b = built-true ws n s B (gate-fine (length ws) n (length s) B g .nodes) t in
-      (rw (g, t), record { yes = λ o b'. refl; built = λ e. b; no = λ o f. absurd (f b) })
+      record { answer = rw (g, t); decides = record { yes = λ o b'. refl; built = λ e. b; no = λ o f. absurd (f b) } }
 
   pub when-not : gate ≡ Pass → builtTest ws n s B ≡ false → AsBuiltPromise ws n s B No
   unfolding asBuiltAnswer
-  when-not g t = (rw (g, t), record { yes = λ o b. absurd (true≢false (sym (built-yes ws n s B b) ∙ t)); built = λ e. let z : _≡_ {A = ℕ} 0 1 = cc in absurd (omega arith); no = λ o f. refl })
+  when-not g t = record {
+    answer = rw (g, t);
+    decides = record {
+      yes = λ o b. absurd (true≢false (sym (built-yes ws n s B b) ∙ t));
+      built = λ e. let z : _≡_ {A = ℕ} 0 1 = cc in absurd (omega arith);
+      no = λ o f. refl;
+    };
+  }

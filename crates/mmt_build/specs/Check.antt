@@ -10,7 +10,7 @@ use Rattle.ints.specs.Order.{eqZ}
 use Rattle.row.specs.declared.answer.Told.{Told}
 use Rattle.row.specs.declared.answer.Told.the-variants.{Yes, No}
 use Rattle.row.specs.declared.gate.Gate.the-variants.{Pass}
-use Rattle.row.specs.Answer.{Answer, at}
+use Rattle.row.specs.Answer.{Answer, at, paperTold}
 use Rattle.row.specs.Gates.{through}
 use Rattle.row.specs.Tree.{allBelow}
 use Rattle.bits_stretch.specs.declared.summary.Summary.{Summary}
@@ -34,3 +34,8 @@ pub record DecidesBuilt (ws : List ℕ) (n : ℕ) (s : List ℤ) (B : ℕ) (a : 
   pub yes : nodesGate (length ws) n (length s) B ≡ Pass → AsBuilt ws n s B → a ≡ Yes
   pub built : a ≡ Yes → AsBuilt ws n s B
   pub no : nodesGate (length ws) n (length s) B ≡ Pass → (AsBuilt ws n s B → ⊥) → a ≡ No
+
+-- The promise of the as-built test: its answer, and that the answer is yes exactly if the buffer is as built.
+pub record AsBuiltPromise (ws : List ℕ) (n : ℕ) (s : List ℤ) (B : ℕ) (a : Told) : Type 0 where
+  pub answer : paperTold a ≡ asBuiltAnswer ws n s B
+  pub decides : DecidesBuilt ws n s B a

@@ -1,3 +1,4 @@
 pub mod Build
 pub mod Filling
 pub mod Check
+pub mod Requirements

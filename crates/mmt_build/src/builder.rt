@@ -1,16 +1,15 @@
 // The build: fills the block leaves from their bits, then the inner nodes from their children.
 ghost use mathlib.Core.Path.{_≡_};
 ghost use mathlib.Core.List.{_++_};
-ghost use Prim.Native.Nat.{_*_, _%_, _≤_};
+ghost use Prim.Native.Nat.{_*_};
 ghost use lib.ListN.{length, drop};
-ghost use Rattle.row.specs.Limits.{maxBits};
-ghost use Rattle.row.specs.Answer.{at, paperBuilt};
-ghost use Rattle.row.specs.Gates.{through};
-ghost use Rattle.bits_lookup.specs.Table.{IsTable};
-ghost use Rattle.mmt_layout.specs.Layout.{width, leaves, inner, count, nodesGate, Fine, maxBlock};
-ghost use Rattle.mmt_node.specs.Nodes.{Ruled, written};
-ghost use Rattle.mmt_build.specs.Build.{builtNodes};
+ghost use Rattle.row.specs.Writes.{Writes};
+ghost use Rattle.row.specs.Answer.{paperBuilt};
+ghost use Rattle.mmt_layout.specs.Layout.{width, leaves, count, Fine};
+ghost use Rattle.mmt_node.specs.Nodes.{written};
+ghost use Rattle.mmt_build.specs.Build.{buildAnswer, builtNodes};
 ghost use Rattle.mmt_build.specs.Filling.{Filled, Leveled};
+ghost use Rattle.mmt_build.specs.Requirements.{LeafPart, Laid, LeavesRuled};
 use crate::rule::leaf_summary;
 use crate::rule::wanted;
 use bits_lookup::Lookup;
@@ -21,12 +20,9 @@ use mmt_node::put_node;
 use row::Built;
 use row::Gate;
 
-// Fills the block leaves. `part` is the part of the node buffer from entry 3I on, with exactly three entries per block leaf.
+// Fills the block leaves. `part` is the part of the node buffer after the inner nodes, with exactly three entries per block leaf.
 fn fill_leaves(t: &Lookup, words: &[u64], n: usize, block: usize, part: &mut [i64])
-    requires { ⌜ IsTable (now t) ⌝ }
-    requires { ⌜ (n ≤ maxBits) × (n ≤ 64 * length (now words)) ⌝ }
-    requires { ⌜ (8 ≤ block) × (block ≤ maxBlock) × (block % 8 ≡ 0) ⌝ }
-    requires { ⌜ length (now part) ≡ width * leaves n block ⌝ }
+    requires { ⌜ LeafPart (now t) (length (now words)) n block (length (now part)) ⌝ }
     ensures { λ r. ⌜ Filled (now (words .entry)) n block (leaves n block) (now (part .exit)) ⌝ }
 {
     let l = part.len() / WIDTH;
@@ -47,10 +43,7 @@ fn fill_levels(
     first: usize,
     all: usize,
 )
-    requires { ⌜ IsTable (now t) ⌝ }
-    requires { ⌜ Fine (length (now words)) n (length (now nodes)) block ⌝ }
-    requires { ⌜ (first ≡ inner n block) × (all ≡ count n block) ⌝ }
-    requires { ⌜ Ruled (now words) n (now nodes) block first ⌝ }
+    requires { ⌜ LeavesRuled (now t) (now words) n (now nodes) block first all ⌝ }
     ensures { λ r. ⌜ Leveled (now (words .entry)) n (now (nodes .entry)) block 0 (now (nodes .exit)) ⌝ }
 {
     let mut k = first;
@@ -63,8 +56,7 @@ fn fill_levels(
 
 // Fills all nodes: passes the part of the block leaves to `fill_leaves`, then fills the inner nodes.
 fn fill_nodes(words: &[u64], n: usize, nodes: &mut [i64], block: usize, first: usize, all: usize)
-    requires { ⌜ Fine (length (now words)) n (length (now nodes)) block ⌝ }
-    requires { ⌜ (first ≡ inner n block) × (all ≡ count n block) ⌝ }
+    requires { ⌜ Laid (length (now words)) n (length (now nodes)) block first all ⌝ }
     ensures { λ r. ⌜ now (nodes .exit) ≡ written (now (words .entry)) n block ++ drop (width * count n block) (now (nodes .entry)) ⌝ }
 {
     let start = WIDTH * first;
@@ -88,8 +80,11 @@ fn fill(words: &[u64], n: usize, nodes: &mut [i64], block: usize)
 // Writes the entries of all min-max nodes of n bits in blocks of `block` bits, after the tests for refusals 1 to 4.
 // On success the entries after the nodes are unchanged. On refusal the whole buffer is unchanged.
 pub fn build(words: &[u64], n: usize, nodes: &mut [i64], block: usize) -> Built
-    ensures { λ a. ⌜ paperBuilt a ≡ through (nodesGate (length (now (words .entry))) n (length (now (nodes .entry))) block) (at 0) ⌝ }
-    ensures { λ a. ⌜ now (nodes .exit) ≡ builtNodes (now (words .entry)) n (now (nodes .entry)) block ⌝ }
+    ensures { λ a.
+        ⌜
+        Writes (paperBuilt a) (buildAnswer (now (words .entry)) n (now (nodes .entry)) block)
+        (now (nodes .exit)) (builtNodes (now (words .entry)) n (now (nodes .entry)) block)
+        ⌝ }
 {
     match admit(words.len(), n, nodes.len(), block) {
         Gate::Refuse(k) => Built::Refused(k),

@@ -2,10 +2,9 @@
 // It goes from the last node down to node 0, so that the children of a node are tested before the node.
 ghost use mathlib.Core.Path.{_≡_};
 ghost use lib.ListN.{length};
-ghost use Rattle.row.specs.Answer.{paperTold};
-ghost use Rattle.bits_lookup.specs.Table.{IsTable};
-ghost use Rattle.mmt_layout.specs.Layout.{inner, count, Fine};
-ghost use Rattle.mmt_build.specs.Check.{sameSummary, builtTest, asBuiltAnswer, DecidesBuilt};
+ghost use Rattle.mmt_layout.specs.Layout.{Fine};
+ghost use Rattle.mmt_build.specs.Check.{sameSummary, builtTest, AsBuiltPromise};
+ghost use Rattle.mmt_build.specs.Requirements.{Testable};
 use crate::rule::wanted;
 use bits_lookup::Lookup;
 use bits_stretch::Summary;
@@ -32,9 +31,7 @@ fn all_wanted(
     first: usize,
     all: usize,
 ) -> bool
-    requires { ⌜ IsTable (now t) ⌝ }
-    requires { ⌜ Fine (length (now words)) n (length (now nodes)) block ⌝ }
-    requires { ⌜ (first ≡ inner n block) × (all ≡ count n block) ⌝ }
+    requires { ⌜ Testable (now t) (length (now words)) n (length (now nodes)) block first all ⌝ }
     ensures { λ b. ⌜ b ≡ builtTest (now (words .entry)) n (now (nodes .entry)) block ⌝ }
 {
     let mut k = all;
@@ -62,8 +59,7 @@ fn is_as_built(words: &[u64], n: usize, nodes: &[i64], block: usize) -> bool
 
 // Tests whether the buffer begins with the entries that a build writes. It answers yes or no, after the tests for refusals 1 to 4.
 pub fn as_built(words: &[u64], n: usize, nodes: &[i64], block: usize) -> Told
-    ensures { λ a. ⌜ paperTold a ≡ asBuiltAnswer (now (words .entry)) n (now (nodes .entry)) block ⌝ }
-    ensures { λ a. ⌜ DecidesBuilt (now (words .entry)) n (now (nodes .entry)) block a ⌝ }
+    ensures { λ a. ⌜ AsBuiltPromise (now (words .entry)) n (now (nodes .entry)) block a ⌝ }
 {
     match admit(words.len(), n, nodes.len(), block) {
         Gate::Refuse(k) => Told::Refused(k),

@@ -1,4 +1,4 @@
--- If the nodes from k₀ on have their required entries, each of them has the summary of the bits that it covers.
+-- If the min-max nodes from k₀ on have their required entries, each of them has the summary of the bits that it covers.
 -- The bits that a node covers are called its stretch.
 --   Node: x is the summary of the stretch from a to t, or (0, 0, 0) if the stretch is empty
 --   startOf: the position at which the stretch of node k begins; it ends where the stretch of node k + 1 begins
@@ -10,7 +10,7 @@
 --   inside: a node with a height above 0 is an inner node
 --   absent: the stretch of a node that does not exist begins at n
 --   covers: each node has the summary of its stretch, in the sense of `Node`
---   solid: a node whose stretch begins before n exists, and its stretch has a bit
+--   solid: a node whose stretch begins before n exists and has the summary of its stretch, which is not empty
 --   node-is: the entries of a node are `summaryOf` its stretch
 --   ruled-tame: the entries of a node are small enough to be joined
 -- Assumes nothing.
@@ -198,7 +198,7 @@ module _ (ws : List ℕ) (n : ℕ) (s : List ℤ) (B : ℕ) (pB : 0 < B) (some :
       strict : a < n → a < m
       strict = rw (ea, s₂) at (start-lt n B pB h (2 * k + 1) pl)
 
-  -- a node whose stretch begins before n exists, and its stretch has a bit
+  -- a node whose stretch begins before n exists and has the summary of its stretch, which is not empty
   pub solid : (h k : ℕ) → Place (top n B) h k → k₀ ≤ k → startOf n B h k < n
       → (k < count n B) × Full (E ws) (startOf n B h k) (startOf n B h (suc k)) (nodeAt s k)
   solid h k p o l = (i, go (covers h k p o i))
@@ -211,7 +211,8 @@ module _ (ws : List ℕ) (n : ℕ) (s : List ℤ) (B : ℕ) (pB : 0 < B) (some :
       go (empty q w) = absurd (omega (arith, start-lt n B pB h k p l))
 
   -- the three entries of a node are the summary of its stretch
-  pub node-is : (h k : ℕ) → Place (top n B) h k → k₀ ≤ k → k < count n B → nodeAt s k ≡ summaryOf (bitAt ws) (startOf n B h k) (startOf n B h (suc k) - startOf n B h k)
+  pub node-is : (h k : ℕ) → Place (top n B) h k → k₀ ≤ k → k < count n B
+      → nodeAt s k ≡ summaryOf (bitAt ws) (startOf n B h k) (startOf n B h (suc k) - startOf n B h k)
   unfolding summaryOf
   node-is h k p o i = go (covers h k p o i) (start-mono n B pB h k)
     where

@@ -36,7 +36,8 @@ module _ (m : ℕ) (node : ℕ → Summary) (k : ℕ) where
   unfolding innerOf
   inner-none h = let l : m ≤ 2 * k + 2 = omega arith in rw (le-ltb (2 * k + 2) m l, le-ltb (2 * k + 1) m h)
 
-pub inner-ext : (m k : ℕ) (f g : ℕ → Summary) → (2 * k + 1 < m → f (2 * k + 1) ≡ g (2 * k + 1)) → (2 * k + 2 < m → f (2 * k + 2) ≡ g (2 * k + 2)) → innerOf m f k ≡ innerOf m g k
+pub inner-ext : (m k : ℕ) (f g : ℕ → Summary) → (2 * k + 1 < m → f (2 * k + 1) ≡ g (2 * k + 1)) → (2 * k + 2 < m → f (2 * k + 2) ≡ g (2 * k + 2))
+    → innerOf m f k ≡ innerOf m g k
 inner-ext m k f g p q = go (ltb (2 * k + 2) m) refl (ltb (2 * k + 1) m) refl
   where
     go : (b : Bool) → ltb (2 * k + 2) m ≡ b → (c : Bool) → ltb (2 * k + 1) m ≡ c → innerOf m f k ≡ innerOf m g k
@@ -65,10 +66,11 @@ module _ (s : List ℤ) (k : ℕ) (x : Summary) where
   pub put-length : length (withNode s k x) ≡ length s
   put-length = simp length-set
 
-  -- the buffer after the first entry is written, and after the second
+  -- the buffer after the first entry is written
   abbrev s₁ : List ℤ
   s₁ = set s (width * k) (x .total)
 
+  -- the buffer after the second entry is written
   abbrev s₂ : List ℤ
   s₂ = set s₁ (width * k + 1) (x .least)
 

@@ -9,7 +9,7 @@ use lib.IntN.{ℤ, pos}
 use lib.ListN.{getD, length, set}
 use Rattle.row.specs.Bits.{bitAt}
 use Rattle.bits_stretch.specs.declared.summary.Summary.{Summary}
-use Rattle.bits_stretch.specs.Summary.{none, summaryOf, joinOf}
+use Rattle.bits_stretch.specs.Summary.{none, summaryOf, joinOf, Tame}
 use Rattle.mmt_layout.specs.Layout.{width, inner, count}
 
 -- Node k has the entries 3k, 3k + 1 and 3k + 2 of the buffer: total, least and greatest.
@@ -31,6 +31,12 @@ leafOf ws n B b = summaryOf (bitAt ws) (b * B) (min B (n - b * B))
 -- Inner node k of m nodes is the join of its two children, a copy of an only left child, or (0, 0, 0) without children.
 unfoldable pub innerOf : ℕ → (ℕ → Summary) → ℕ → Summary
 innerOf m node k = cond (ltb (2 * k + 2) m) (joinOf (node (2 * k + 1)) (node (2 * k + 2))) (cond (ltb (2 * k + 1) m) (node (2 * k + 1)) none)
+
+-- The children of node k can be joined: the buffer s has all m nodes, and the entries of those after k are small.
+pub record Joinable (s : List ℤ) (m k : ℕ) : Type 0 where
+  pub long : width * m ≤ length s
+  pub inside : k < m
+  pub tame : (j : ℕ) → k < j → j < m → Tame (nodeAt s j)
 
 -- The required entries of node k. Below I it is an inner node, computed from its children; node I + b is block leaf b.
 unfoldable pub nodeFrom : List ℕ → ℕ → ℕ → (ℕ → Summary) → ℕ → Summary

@@ -2,11 +2,10 @@
 // specs/Nodes.antt defines the entries of every node. The crate mmt_build computes the block leaves from the bits.
 // No function here refuses. The caller passes a node that the buffer has room for.
 ghost use mathlib.Core.Path.{_≡_};
-ghost use Prim.Native.Nat.{ℕ, _+_, _*_, _<_, _≤_};
+ghost use Prim.Native.Nat.{_+_, _*_, _≤_};
 ghost use lib.ListN.{length};
-ghost use Rattle.bits_stretch.specs.Summary.{Tame};
 ghost use Rattle.mmt_layout.specs.Layout.{width};
-ghost use Rattle.mmt_node.specs.Nodes.{nodeAt, withNode, innerOf};
+ghost use Rattle.mmt_node.specs.Nodes.{nodeAt, withNode, innerOf, Joinable};
 use bits_stretch::Summary;
 use mmt_layout::WIDTH;
 
@@ -40,8 +39,7 @@ pub fn put_node(nodes: &mut [i64], k: usize, x: Summary)
 // Returns the required entries of inner node k: the join of its two children, a copy of an only child, or (0, 0, 0) without children.
 // The entries of the nodes after k must be small, so that the sums of a join fit into an i64.
 pub fn inner_summary(nodes: &[i64], count: usize, k: usize) -> Summary
-    requires { ⌜ (width * count ≤ length (now nodes)) × (k < count) ⌝ }
-    requires { ⌜ ((j : ℕ) → k < j → j < count → Tame (nodeAt (now nodes) j)) ⌝ }
+    requires { ⌜ Joinable (now nodes) count k ⌝ }
     ensures { λ x. ⌜ x ≡ innerOf count (nodeAt (now (nodes .entry))) k ⌝ }
 {
     let left = 2 * k + 1;

@@ -1,6 +1,8 @@
--- One tree, by the numbers of all bits but the last and by the last bit.
---   tree-not: where it is not one tree, the test says no
---   few-no, opens-no, body-is: what each of the code's tests settles
+-- One tree, by the summary of all bits but the last and by the last bit.
+--   tree-not: if the row is not one tree, the test says no
+--   few-no: a row of fewer than two bits is not one tree
+--   opens-no: a row whose last bit is open is not one tree
+--   body-is: if the last bit is a close bit, the row is one tree exactly if the other bits have least > 0 and total = 1
 -- Assumes nothing.
 use mathlib.Core.Path.{_≡_, refl, sym}
 use mathlib.Core.Bool.{Bool, true, false, _&&_}
@@ -27,7 +29,7 @@ use Rattle.bits_stretch.specs.declared.summary.Summary.{Summary}
 use Rattle.bits_stretch.specs.Summary.{summaryOf}
 use Rattle.bits_stretch.proofs.Full.{Full, wide, summary-full}
 
--- where it is not one tree, the test says no
+-- If the row is not one tree, the test says no.
 pub tree-not : (ws : List ℕ) (n : ℕ) → (OneTree ws n → ⊥) → false ≡ oneTree ws n
 tree-not ws n f = go (oneTree ws n) refl
   where
@@ -42,7 +44,7 @@ module _ (ws : List ℕ) (n : ℕ) (two : 2 ≤ n) where
   abbrev x : Summary
   x = summaryOf (bitAt ws) 0 (n - 1)
 
-  -- E stands at 0 before the first bit, and the last bit comes after n - 1
+  -- E(0) is 0, and E(n) is E(n - 1) plus what the last bit adds.
   start : E ws 0 ≡ pos 0
   start = unfold excess in refl
 
@@ -56,9 +58,10 @@ module _ (ws : List ℕ) (n : ℕ) (two : 2 ≤ n) where
   body = let e : 0 + (n - 1) ≡ n - 1 = omega arith in rw e at (summary-full (bitAt ws) 0 (n - 1) (omega arith))
 
   pub opens-no : eqb (bitAt ws (n - 1)) 1 ≡ true → false ≡ oneTree ws n
-  opens-no o = tree-not ws n (λ t. let b = sign-open (bitAt ws (n - 1)) (λ z. omega (arith, eqb-true (bitAt ws (n - 1)) 1 o)) in omega (zsum, last, t .closed, t .above (n - 1) (omega arith) (omega arith)))
+  opens-no o =
+      tree-not ws n (λ t. let b = sign-open (bitAt ws (n - 1)) (λ z. omega (arith, eqb-true (bitAt ws (n - 1)) 1 o)) in omega (zsum, last, t .closed, t .above (n - 1) (omega arith) (omega arith)))
 
-  -- the last bit closes, so E(n) is one below the body's total
+  -- The last bit is a close bit, so E(n) is one less than the total of the other bits.
   module _ (c : eqb (bitAt ws (n - 1)) 1 ≡ false) where
     ends : E ws n +ℤ pos 1 ≡ x .total
     ends =
@@ -66,7 +69,7 @@ module _ (ws : List ℕ) (n : ℕ) (two : 2 ≤ n) where
         let b = sign-close (bitAt ws (n - 1)) (omega (arith, eqb-false (bitAt ws (n - 1)) 1 c)) in
         omega (zsum, last, start, body .total, plus (E ws n) (pos 1), plus (E ws (n - 1)) (sign (bitAt ws (n - 1))))
 
-    -- what the others have to be is what they are in one tree
+    -- The test of the other bits says what the one-tree test says.
     pub body-is : (ltZ (pos 0) (x .least) && eqZ (x .total) (pos 1)) ≡ oneTree ws n
     body-is = same-test (ltZ (pos 0) (x .least) && eqZ (x .total) (pos 1)) (oneTree ws n) there back
       where

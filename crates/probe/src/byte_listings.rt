@@ -4,6 +4,7 @@
 // the answers are unchanged. A refused constructor leaves all bytes unchanged.
 ghost use mathlib.Core.Path.{_≡_};
 ghost use mathlib.Core.Bool.{true, false};
+ghost use Rattle.row.specs.Writes.{Writes};
 ghost use Rattle.c_listings.specs.Listings.{listWire, listLeft};
 
 // Writes the children of `node` from the first to the last. Returns the number of answers written, or the refusal.
@@ -16,8 +17,11 @@ pub extern "C" fn bp_children(
     node: u64,
     out: &mut [u8],
 ) -> i64
-    ensures { λ a. ⌜ a ≡ listWire true (now (row .entry)) bits (now (nodes .entry)) block node (now (out .entry)) ⌝ }
-    ensures { λ a. ⌜ now (out .exit) ≡ listLeft true (now (row .entry)) bits (now (nodes .entry)) block node (now (out .entry)) ⌝ }
+    ensures { λ a.
+        ⌜
+        Writes a (listWire true (now (row .entry)) bits (now (nodes .entry)) block node (now (out .entry)))
+        (now (out .exit)) (listLeft true (now (row .entry)) bits (now (nodes .entry)) block node (now (out .entry)))
+        ⌝ }
 {
     c_listings::to_bytes(row, bits, nodes, block, true, node, out)
 }
@@ -32,8 +36,11 @@ pub extern "C" fn bp_rev_children(
     node: u64,
     out: &mut [u8],
 ) -> i64
-    ensures { λ a. ⌜ a ≡ listWire false (now (row .entry)) bits (now (nodes .entry)) block node (now (out .entry)) ⌝ }
-    ensures { λ a. ⌜ now (out .exit) ≡ listLeft false (now (row .entry)) bits (now (nodes .entry)) block node (now (out .entry)) ⌝ }
+    ensures { λ a.
+        ⌜
+        Writes a (listWire false (now (row .entry)) bits (now (nodes .entry)) block node (now (out .entry)))
+        (now (out .exit)) (listLeft false (now (row .entry)) bits (now (nodes .entry)) block node (now (out .entry)))
+        ⌝ }
 {
     c_listings::to_bytes(row, bits, nodes, block, false, node, out)
 }

@@ -2,6 +2,7 @@
 //
 // Each test makes one request. Its promise is that of the test, over the words and node numbers that the bytes encode.
 ghost use mathlib.Core.Path.{_≡_};
+ghost use Rattle.row.specs.Writes.{Writes};
 ghost use Rattle.one_tree.specs.OneTree.{oneTreeAnswer};
 ghost use Rattle.mmt_build.specs.Check.{asBuiltAnswer};
 ghost use Rattle.wire.specs.Answer.{wireOf};
@@ -30,8 +31,11 @@ pub extern "C" fn bp_as_built(row: &[u8], bits: u64, nodes: &[u8], block: u64) -
 // bytes unchanged.
 #[no_mangle]
 pub extern "C" fn bp_read_text(text: &[u8], row: &mut [u8]) -> i64
-    ensures { λ a. ⌜ a ≡ readWire (now (text .entry)) (now (row .entry)) ⌝ }
-    ensures { λ a. ⌜ now (row .exit) ≡ readBytes (now (text .entry)) (now (row .entry)) ⌝ }
+    ensures { λ a.
+        ⌜
+        Writes a (readWire (now (text .entry)) (now (row .entry)))
+        (now (row .exit)) (readBytes (now (text .entry)) (now (row .entry)))
+        ⌝ }
 {
     c_dispatch::read_text(text, row)
 }

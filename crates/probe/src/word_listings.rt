@@ -5,6 +5,7 @@
 ghost use mathlib.Core.Path.{_≡_};
 ghost use mathlib.Core.Bool.{true, false};
 ghost use lib.ListN.{length};
+ghost use Rattle.row.specs.Writes.{Writes};
 ghost use Rattle.wire.specs.Answer.{wireOf};
 ghost use Rattle.list_slice.specs.WholeListing.{countOf, leftOf};
 
@@ -18,8 +19,11 @@ pub extern "C" fn bpw_children(
     node: u64,
     out: &mut [i64],
 ) -> i64
-    ensures { λ a. ⌜ a ≡ wireOf (countOf true (now (words .entry)) bits (now (nodes .entry)) block node (length (now (out .entry)))) ⌝ }
-    ensures { λ a. ⌜ now (out .exit) ≡ leftOf true (now (words .entry)) bits (now (nodes .entry)) block node (now (out .entry)) ⌝ }
+    ensures { λ a.
+        ⌜
+        Writes a (wireOf (countOf true (now (words .entry)) bits (now (nodes .entry)) block node (length (now (out .entry)))))
+        (now (out .exit)) (leftOf true (now (words .entry)) bits (now (nodes .entry)) block node (now (out .entry)))
+        ⌝ }
 {
     c_listings::to_numbers(words, bits, nodes, block, true, node, out)
 }
@@ -34,8 +38,11 @@ pub extern "C" fn bpw_rev_children(
     node: u64,
     out: &mut [i64],
 ) -> i64
-    ensures { λ a. ⌜ a ≡ wireOf (countOf false (now (words .entry)) bits (now (nodes .entry)) block node (length (now (out .entry)))) ⌝ }
-    ensures { λ a. ⌜ now (out .exit) ≡ leftOf false (now (words .entry)) bits (now (nodes .entry)) block node (now (out .entry)) ⌝ }
+    ensures { λ a.
+        ⌜
+        Writes a (wireOf (countOf false (now (words .entry)) bits (now (nodes .entry)) block node (length (now (out .entry)))))
+        (now (out .exit)) (leftOf false (now (words .entry)) bits (now (nodes .entry)) block node (now (out .entry)))
+        ⌝ }
 {
     c_listings::to_numbers(words, bits, nodes, block, false, node, out)
 }

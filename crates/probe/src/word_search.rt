@@ -4,6 +4,7 @@
 ghost use mathlib.Core.Path.{_≡_};
 ghost use lib.IntN.{negsuc};
 ghost use lib.ListN.{length};
+ghost use Rattle.row.specs.Writes.{Writes};
 ghost use Rattle.row.specs.Answer as answer;
 ghost use Rattle.row.specs.Gates.{through};
 ghost use Rattle.mmt_layout.specs.Layout.{nodesGate};
@@ -14,8 +15,11 @@ ghost use Rattle.wire.specs.Answer.{wireOf};
 // Builds the min-max nodes of the row and writes them to `nodes`. Entries after the nodes are unchanged; a refusal leaves all unchanged.
 #[no_mangle]
 pub extern "C" fn bpw_build(words: &[u64], bits: u64, nodes: &mut [i64], block: u64) -> i64
-    ensures { λ a. ⌜ a ≡ wireOf (through (nodesGate (length (now (words .entry))) bits (length (now (nodes .entry))) block) (answer.at 0)) ⌝ }
-    ensures { λ a. ⌜ now (nodes .exit) ≡ builtNodes (now (words .entry)) bits (now (nodes .entry)) block ⌝ }
+    ensures { λ a.
+        ⌜
+        Writes a (wireOf (through (nodesGate (length (now (words .entry))) bits (length (now (nodes .entry))) block) (answer.at 0)))
+        (now (nodes .exit)) (builtNodes (now (words .entry)) bits (now (nodes .entry)) block)
+        ⌝ }
 {
     wire::built(mmt_build::build(words, bits as usize, nodes, block as usize))
 }
@@ -69,7 +73,11 @@ pub extern "C" fn bpw_open(words: &[u64], bits: u64, nodes: &[i64], block: u64, 
 // Answers `enclose(at)` for any position.
 #[no_mangle]
 pub extern "C" fn bpw_enclose(words: &[u64], bits: u64, nodes: &[i64], block: u64, at: u64) -> i64
-    ensures { λ a. ⌜ a ≡ wireOf (bwdAnswer (now (words .entry)) bits (now (nodes .entry)) block at (outward (now (words .entry)) bits at)) ⌝ }
+    ensures { λ a.
+        ⌜
+        a
+        ≡ wireOf (bwdAnswer (now (words .entry)) bits (now (nodes .entry)) block at (outward (now (words .entry)) bits at))
+        ⌝ }
 {
     wire::found(bp::enclose(words, bits as usize, nodes, block as usize, at as usize))
 }

@@ -3,6 +3,7 @@
 // Each function makes one call and has the promise of that call.
 ghost use mathlib.Core.Path.{_≡_};
 ghost use lib.ListN.{length};
+ghost use Rattle.row.specs.Writes.{Writes};
 ghost use Rattle.row.specs.Answer.{at};
 ghost use Rattle.row.specs.Gates.{through};
 ghost use Rattle.text.specs.Text.{textGate, textWords};
@@ -29,8 +30,11 @@ pub extern "C" fn bpw_as_built(words: &[u64], bits: u64, nodes: &[i64], block: u
 // Reads a text into `words` and returns the bit count. Words after the needed ones are unchanged; a refusal leaves all words unchanged.
 #[no_mangle]
 pub extern "C" fn bpw_read_text(text: &[u8], words: &mut [u64]) -> i64
-    ensures { λ a. ⌜ a ≡ wireOf (through (textGate (now (text .entry)) (length (now (words .entry)))) (at (length (now (text .entry))))) ⌝ }
-    ensures { λ a. ⌜ now (words .exit) ≡ textWords (now (text .entry)) (now (words .entry)) ⌝ }
+    ensures { λ a.
+        ⌜
+        Writes a (wireOf (through (textGate (now (text .entry)) (length (now (words .entry)))) (at (length (now (text .entry))))))
+        (now (words .exit)) (textWords (now (text .entry)) (now (words .entry)))
+        ⌝ }
 {
     wire::read(text::read_text(text, words))
 }

@@ -60,7 +60,8 @@ module _ (f : ℕ → ℕ) where
   pub excess-add : (a k : ℕ) → excess f (a + k) ≡ excess f a +ℤ excess (λ j. f (a + j)) k
   unfolding excess
   excess-add a zero = rw add-zero (omega zsum)
-  excess-add a (suc k) = rw add-suc (omega (zsum, excess-add a k, plus (excess f (a + k)) (sign (f (a + k))), plus (excess (λ j. f (a + j)) k) (sign (f (a + k)))))
+  excess-add a (suc k) =
+      rw add-suc (omega (zsum, excess-add a k, plus (excess f (a + k)) (sign (f (a + k))), plus (excess (λ j. f (a + j)) k) (sign (f (a + k)))))
 
 pub excess-ext : (f g : ℕ → ℕ) (k : ℕ) → ((j : ℕ) → j < k → f j ≡ g j) → excess f k ≡ excess g k
 unfolding excess

@@ -1,6 +1,6 @@
 -- The first position after which the excess is v, in the stretch a..t. The stretch has the positions from a to t - 1.
 --   first: the search for this position; it answers nothing if there is none
---   first-is: the answer is the least position with this property, or nothing and there is none
+--   first-is: the answer is the least position with this property, or nothing if there is none
 --   first-split: the answer over a..t is the one over a..m, or the one over m..t if the first is nothing
 --   first-left, first-right: the two cases of first-split
 --   first-at: an answered position lies in the stretch, and the excess after it is v
@@ -32,7 +32,8 @@ module _ (e : ℕ → ℤ) (v : ℤ) where
   first-is a t = least-is (excessAfter e v) Has (λ k. eqZ-true (e (suc k)) v) (λ k. eqZ-yes (e (suc k)) v) (t - a) a t refl
 
   pub first-split : (a m t : ℕ) → a ≤ m → m ≤ t → first e v a t ≡ orElse (first e v a m) (first e v m t)
-  first-split a m t h l = one-least (InStretch Has a t) (first e v a t) (orElse (first e v a m) (first e v m t)) (first-is a t) (join-least Has a m t h l (first e v a m) (first e v m t) (first-is a m) (first-is m t))
+  first-split a m t h l =
+      one-least (InStretch Has a t) (first e v a t) (orElse (first e v a m) (first e v m t)) (first-is a t) (join-least Has a m t h l (first e v a m) (first e v m t) (first-is a m) (first-is m t))
 
   pub first-left : (a m t j : ℕ) → a ≤ m → m ≤ t → first e v a m ≡ at j → first e v a t ≡ at j
   first-left a m t j h l q = rw q at (first-split a m t h l)

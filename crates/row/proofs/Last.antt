@@ -1,6 +1,6 @@
 -- The last position before which the excess is v, in the stretch a..t. The stretch has the positions from a to t - 1.
 --   last: the search for this position; it answers nothing if there is none
---   last-is: the answer is the greatest position with this property, or nothing and there is none
+--   last-is: the answer is the greatest position with this property, or nothing if there is none
 --   last-split: the answer over a..t is the one over m..t, or the one over a..m if the first is nothing
 --   last-right, last-left: the two cases of last-split
 --   last-at: an answered position lies in the stretch, and the excess before it is v
@@ -32,7 +32,8 @@ module _ (e : ℕ → ℤ) (v : ℤ) where
   last-is a t = greatest-is (excessBefore e v) Has (λ k. eqZ-true (e k) v) (λ k. eqZ-yes (e k) v) (t - a) a t refl
 
   pub last-split : (a m t : ℕ) → a ≤ m → m ≤ t → last e v a t ≡ orElse (last e v m t) (last e v a m)
-  last-split a m t h l = one-greatest (InStretch Has a t) (last e v a t) (orElse (last e v m t) (last e v a m)) (last-is a t) (join-greatest Has a m t h l (last e v m t) (last e v a m) (last-is m t) (last-is a m))
+  last-split a m t h l =
+      one-greatest (InStretch Has a t) (last e v a t) (orElse (last e v m t) (last e v a m)) (last-is a t) (join-greatest Has a m t h l (last e v m t) (last e v a m) (last-is m t) (last-is a m))
 
   pub last-right : (a m t j : ℕ) → a ≤ m → m ≤ t → last e v m t ≡ at j → last e v a t ≡ at j
   last-right a m t j h l q = rw q at (last-split a m t h l)

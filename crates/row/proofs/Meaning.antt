@@ -1,6 +1,6 @@
 -- The two searches as relations, as SCOPE, The two searches, states them. The computed searches satisfy the relations, and no other answer does.
 --   Ahead, Behind: position j fits the forward (backward) search from i for r
---   IsFwd, IsBwd: the answer is the nearest position that fits, or nothing and none fits
+--   IsFwd, IsBwd: the answer is the nearest position that fits, or nothing if none fits
 --   nearest-ext: if two properties hold of the same positions, they have the same nearest position
 --   fwd-first: a forward search answers the first fitting position of the stretch from i + 1 to n - 1
 --   bwd-last: for i < n a backward search answers the last fitting position of the stretch from 0 to i - 1

@@ -1,5 +1,5 @@
 -- The least and the greatest position with a property, as relations. `least` and `greatest` of specs/Search.antt satisfy them.
---   NearestBy: the answer is the position with property P that comes first in the order R, or nothing and there is none
+--   NearestBy: the answer is the position with property P that comes first in the order R, or nothing if there is none
 --   Least, Greatest: NearestBy in rising and in falling order
 --   InStretch: the position lies in a stretch and has a property
 --   orElse: the first answer, or the second one if the first is nothing
@@ -54,7 +54,8 @@ module _ (R : ℕ → ℕ → Type 0) (P : ℕ → Type 0) where
   some-at (refused m) h k p = absurd h
 
   -- A position has S if it has P or Q, and no position with Q comes before one with P.
-  join : (Q S : ℕ → Type 0) → ((k : ℕ) → P k → S k) → ((k : ℕ) → Q k → S k) → ((k : ℕ) → S k → (P k → ⊥) → (Q k → ⊥) → ⊥) → ((j k : ℕ) → P j → Q k → R k j → ⊥) → (x y : Answer) → NearestBy R P x → NearestBy R Q y → NearestBy R S (orElse x y)
+  join : (Q S : ℕ → Type 0) → ((k : ℕ) → P k → S k) → ((k : ℕ) → Q k → S k) → ((k : ℕ) → S k → (P k → ⊥) → (Q k → ⊥) → ⊥)
+      → ((j k : ℕ) → P j → Q k → R k j → ⊥) → (x y : Answer) → NearestBy R P x → NearestBy R Q y → NearestBy R S (orElse x y)
   join Q S p q s c (at j) y h g = (p j (h .0), λ k u b. s k u (λ v. h .1 k v b) (λ v. c j k (h .0) v b))
   join Q S p q s c nothing (at j) h g = (q j (g .0), λ k u b. s k u (h k) (λ v. g .1 k v b))
   join Q S p q s c nothing nothing h g = λ k u. s k u (h k) (g k)

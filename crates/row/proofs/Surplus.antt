@@ -85,7 +85,8 @@ low-bit : (ws : List ℕ) (n k : ℕ) → k / 64 ≡ n / 64 → k % 64 < n % 64 
 low-bit ws n k q l = rw q (sym (digit-low (getD ws (n / 64) 0) (n % 64) (k % 64) l))
 
 -- The premises: all words before the word of bit n are equal, and in that word all bits before bit n are equal.
-pub bits-beyond : (ws vs : List ℕ) (n : ℕ) → ((q : ℕ) → q < n / 64 → getD ws q 0 ≡ getD vs q 0) → getD ws (n / 64) 0 % 2 ^ (n % 64) ≡ getD vs (n / 64) 0 % 2 ^ (n % 64) → Same ws vs n
+pub bits-beyond : (ws vs : List ℕ) (n : ℕ) → ((q : ℕ) → q < n / 64 → getD ws q 0 ≡ getD vs q 0)
+    → getD ws (n / 64) 0 % 2 ^ (n % 64) ≡ getD vs (n / 64) 0 % 2 ^ (n % 64) → Same ws vs n
 bits-beyond ws vs n f e k l = elim (decLt (k / 64) (n / 64)) [
   | yes m ↦ ap (λ (w : ℕ). digit w (k % 64)) (f (k / 64) m)
   | no m ↦

@@ -1,4 +1,4 @@
--- The specification answer of a call, and the specification answer that each case of an answer type means (SCOPE, Refusals).
+-- The specification answers, and which one each case of an answer type means (SCOPE, Refusals).
 -- Assumes nothing.
 use Prim.Native.Nat.{ℕ}
 use Rattle.row.specs.declared.refusal.Refusal.{Refusal}

@@ -5,7 +5,7 @@ use Prim.Native.Nat.{ℕ, zero, suc}
 use lib.IntN.{ℤ, pos, negsuc, _+ℤ_}
 use Rattle.row.specs.Bits.{bitAt}
 
--- What a bit adds to the excess: 1 if it is open, -1 if it is a close bit.
+-- What a bit adds to the excess: 1 for an open bit, -1 for a close bit.
 unfoldable pub sign : ℕ → ℤ
 sign zero = negsuc 0
 sign (suc b) = pos 1

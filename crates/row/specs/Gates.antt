@@ -15,11 +15,11 @@ use Rattle.row.specs.Tree.{opens}
 abbrev pub wordsFor : ℕ → ℕ
 wordsFor n = (n + 63) / 64
 
--- Refusal 2 if n is above 2^32, then refusal 3 if the w words are fewer than n bits need.
+-- The gate of a row: refusal 2 if n is above 2^32, else refusal 3 if w is below the number of words that n bits need.
 unfoldable pub rowGate : ℕ → ℕ → Gate
 rowGate w n = cond (leb n maxBits) (cond (leb (wordsFor n) w) Pass (Refuse TooFewWords)) (Refuse TooManyBits)
 
--- Refusal 5 if v is not a handle.
+-- The gate of a handle: refusal 5 if v is not a handle.
 unfoldable pub handleGate : List ℕ → ℕ → ℕ → Gate
 handleGate ws n v = cond (opens ws n v) Pass (Refuse NotAHandle)
 

@@ -6,3 +6,4 @@ pub mod Way
 pub mod Search
 pub mod Tree
 pub mod Gates
+pub mod Writes

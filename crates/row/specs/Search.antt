@@ -19,11 +19,11 @@ unfoldable pub greatest : (ℕ → Bool) → ℕ → ℕ → Answer
 greatest p zero a = nothing
 greatest p (suc c) a = cond (p (a + c)) (at (a + c)) (greatest p c a)
 
--- Tests whether the excess after position j is v. It counts the bit at j.
+-- Tests whether the excess after position j is v. This excess counts the bit at j.
 abbrev pub excessAfter : (ℕ → ℤ) → ℤ → ℕ → Bool
 excessAfter e v j = eqZ (e (suc j)) v
 
--- Tests whether the excess before position j is v. It does not count the bit at j.
+-- Tests whether the excess before position j is v. This excess does not count the bit at j.
 abbrev pub excessBefore : (ℕ → ℤ) → ℤ → ℕ → Bool
 excessBefore e v j = eqZ (e j) v
 

@@ -1,4 +1,4 @@
--- Open and close bits of a row (SCOPE, The row and its excess), handles and rows that are one tree (SCOPE, The calls).
+-- Open and close bits of a row (SCOPE, The row and its excess). Handles, and rows that are one tree (SCOPE, The calls).
 -- Assumes nothing.
 use mathlib.Core.Path.{_≡_}
 use mathlib.Core.Bool.{Bool, true, _&&_}

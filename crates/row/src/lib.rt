@@ -4,7 +4,7 @@
 // A gate is the tests that a call makes before it answers. The definitions that all promises cite are in specs/:
 // bit, excess, the two searches, one tree.
 //
-// A function with a `requires` repeats no test. Its callers have passed `admit_row`.
+// A function with a `requires` makes no test of its own, because its callers have passed `admit_row`.
 mod answer;
 mod bits;
 mod gate;

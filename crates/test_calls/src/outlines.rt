@@ -1,12 +1,12 @@
-// Every level and every child listing, in both directions, of row T and of larger trees; positions that are no handles; and a foreign node
-// buffer that leads a listing to a close bit.
+// Prints the levels and the child listings, in both directions, of row T and of larger trees. Also runs positions that are no handles, and a
+// foreign node buffer that leads a listing to a close bit.
 use crate::say;
 use list_slice::Listed;
 use row::Built;
 use row::Found;
 use row::Refusal;
 
-// A refusal ends its line.
+// Prints a refusal and ends the line.
 fn refused(k: Refusal) {
     say::number(b" refused", row::number(k));
     say::line(b"");
@@ -27,8 +27,8 @@ fn tell(f: Found) {
     }
 }
 
-// An answer as a listing writes it: a position, -1 for nothing, -1 less the number for a refusal. It is read by
-// its bits: where it is below 0, their complement -1 - x is the lesser of the two.
+// Prints an answer as `list` writes it: a position, -1 for nothing, or -1 - k for refusal k. It compares the bits of x, as a u64, with their
+// complement: if x is negative, the complement is the smaller one and equals -1 - x.
 fn tell_number(x: i64) {
     let bits = wire::to_word(x);
     let less = u64::MAX - bits;
@@ -41,7 +41,7 @@ fn tell_number(x: i64) {
     }
 }
 
-// The neighbour of v on its level.
+// Returns the outline node after v on its level, or the one before it.
 fn beside(words: &[u64], n: usize, nodes: &[i64], rising: bool, v: usize) -> Found {
     if rising {
         bp::level_next(words, n, nodes, 8, v)
@@ -50,7 +50,7 @@ fn beside(words: &[u64], n: usize, nodes: &[i64], rising: bool, v: usize) -> Fou
     }
 }
 
-// From one end of a level to the other.
+// Prints a level from one end to the other. `from` is the answer for the first end.
 fn along(words: &[u64], n: usize, nodes: &[i64], rising: bool, from: Found) {
     let mut f = from;
     let mut left = n;
@@ -71,7 +71,7 @@ fn along(words: &[u64], n: usize, nodes: &[i64], rising: bool, from: Found) {
     }
 }
 
-// The levels 0 to deepest, and one past it, which has none.
+// Prints the levels from 0 to `deepest` - 1, in both directions. Callers pass a `deepest` for which the last of these levels is empty.
 fn levels(words: &[u64], n: usize, nodes: &[i64], deepest: u64) {
     let mut k = 0;
     while k < deepest {
@@ -111,7 +111,7 @@ fn tell_listed(l: Listed, out: &[i64]) {
     }
 }
 
-// The children of the node v, one way.
+// Prints the children of the outline node v, in one direction.
 fn children(words: &[u64], n: usize, nodes: &[i64], block: usize, rising: bool, v: usize) {
     let mut out = [0i64; 70];
     say::number(b"children of", v as u64);
@@ -119,7 +119,7 @@ fn children(words: &[u64], n: usize, nodes: &[i64], block: usize, rising: bool, 
     tell_listed(listed, &out);
 }
 
-// Those of every position before end, so that those which do not open are refused.
+// Prints the children of every position before `end`, in both directions. The position of a close bit is refused.
 fn families(words: &[u64], n: usize, nodes: &[i64], end: usize) {
     let mut v = 0;
     while v < end {
@@ -129,7 +129,7 @@ fn families(words: &[u64], n: usize, nodes: &[i64], end: usize) {
     }
 }
 
-// The row is the first n bits of two words, in blocks of 8: its levels, and the children of every position before end.
+// Builds the nodes for the first n bits of two words, with B = 8. Prints the levels, and the children of every position before `end`.
 fn outline(low: u64, high: u64, n: usize, deepest: u64, end: usize) {
     let words = [low, high];
     let mut nodes = [0i64; 93];
@@ -138,7 +138,7 @@ fn outline(low: u64, high: u64, n: usize, deepest: u64, end: usize) {
     families(&words, n, &nodes, end);
 }
 
-// The children of its node v, one way, asked with blocks of so many bits.
+// Builds the nodes for the first n bits of two words, with B = 8. Prints the children of v, in one direction, asked for with B = `block`.
 fn listing(low: u64, high: u64, n: usize, block: usize, rising: bool, v: usize) {
     let words = [low, high];
     let mut nodes = [0i64; 93];
@@ -146,7 +146,7 @@ fn listing(low: u64, high: u64, n: usize, block: usize, rising: bool, v: usize) 
     children(&words, n, &nodes, block, rising, v);
 }
 
-// Row T, (()(())), and a position past it.
+// Row T, `(()(()))`; a position after its end; and a block size that is refused.
 fn small() {
     say::line(b"(()(()))");
     outline(27, 0, 8, 4, 8);
@@ -154,25 +154,25 @@ fn small() {
     listing(27, 0, 8, 12, true, 0);
 }
 
-// One node: level_rightmost(0) is nothing, as in the source.
+// One outline node: `level_rightmost(0)` is nothing, as in the Rust.
 fn pair() {
     say::line(b"()");
     outline(1, 0, 2, 2, 2);
 }
 
-// 40 bits, in five blocks.
+// A tree of 40 bits in five blocks.
 fn middling() {
     say::line(b"((()(()))()((()))((())(()()))(()(()))())");
     outline(0x2362ce3a37, 0, 40, 5, 40);
 }
 
-// A root with 63 leaves beneath it.
+// A root with 63 children, all of them outline leaves.
 fn wide() {
     say::line(b"wide");
     outline(0xaaaaaaaaaaaaaaab, 0x2aaaaaaaaaaaaaaa, 128, 3, 1);
 }
 
-// 64 nodes, each beneath the one before.
+// A chain of 64 outline nodes, each the only child of the one before.
 fn deep() {
     say::line(b"deep");
     outline(0xffffffffffffffff, 0, 128, 65, 0);
@@ -180,7 +180,8 @@ fn deep() {
     listing(0xffffffffffffffff, 0, 128, 8, false, 63);
 }
 
-// Node 4's total is 2, and 5 is put in its place: a listing back from node 9 is led to position 5, which closes.
+// The total of min-max node 4 is changed from 2 to 5. Then the reverse listing of the outline node 9 answers position 5, which is a close bit
+// (SCOPE, Listing children).
 fn foreign() {
     say::line(b"((((())))((()()()))) with foreign nodes");
     listing(0xae1f, 0, 20, 8, false, 9);

@@ -1,5 +1,5 @@
-// The searches: cases a to g of SCOPE, Small rows; the empty row; a hit on the first bit of a block going back; a childless min-max node
-// met in a climb; nodes built for another block size; and each place of refusal 8.
+// Runs the searches on cases a to g of SCOPE, Small rows, and on the empty row. Further cases: a backward answer at the first bit of a block, a
+// childless min-max node that a climb examines, nodes that are built for another block size, and each reason for refusal 8.
 use crate::say;
 use row::Built;
 use row::Found;
@@ -19,7 +19,7 @@ fn tell_built(b: Built) {
     }
 }
 
-// The row is the first n bits of the word, 48 at most; its nodes are built for blocks of so many bits, and asked with blocks of 8.
+// Runs `fwd_search` with B = 8 on the first n bits of the word, at most 48. The nodes are built with B = `block`.
 fn forward(word: u64, n: usize, block: usize, i: usize, r: i64) {
     let words = [word; 1];
     let mut nodes = [0i64; 39];
@@ -41,10 +41,10 @@ fn enclose(word: u64, n: usize, block: usize, i: usize) {
     tell(bp::enclose(&words, n, &nodes, 8, i));
 }
 
-// (()(()))
+// Row T, `(()(()))`.
 const ROW_T: u64 = 27;
 
-// a to d forward, e and f backward, and g.
+// Cases a to d are forward, e and f backward, and g is an `enclose`.
 fn cases() {
     say::line(b"cases a to g");
     forward(ROW_T, 8, 8, 0, -1);
@@ -56,7 +56,7 @@ fn cases() {
     enclose(ROW_T, 8, 8, 6);
 }
 
-// The calls on no words and no nodes.
+// Calls on the empty row, without words and nodes. The last one has a block size that is refused.
 fn ask_empty(words: &[u64], nodes: &[i64]) {
     tell(bp::fwd_search(words, 0, nodes, 8, 0, 0));
     tell(bp::bwd_search(words, 0, nodes, 8, 0, 0));
@@ -73,7 +73,8 @@ fn empty() {
     ask_empty(&words[..0], &nodes[..0]);
 }
 
-// A hit on a block's first bit: in the climb, in the descent's right child and in its left one.
+// Backward answers at the first bit of a block (SCOPE, Small rows): the block is found in the climb, as the right child in the descent, and as
+// the left child in the descent.
 fn first_bits() {
     say::line(b"first bits of blocks");
     backward(0b0101010111, 10, 8, 9, -3);
@@ -83,7 +84,7 @@ fn first_bits() {
 
 const SIX_BYTES: u64 = 0xff00ff00ff0f;
 
-// Six leaves: node 6 is childless, and a climb from the last leaves meets it as a right sibling.
+// Six block leaves: min-max node 6 has no children, and a climb from the last two block leaves examines it as a right sibling.
 fn childless() {
     say::line(b"a childless sibling");
     forward(SIX_BYTES, 48, 8, 33, -9);
@@ -91,7 +92,7 @@ fn childless() {
     backward(SIX_BYTES, 48, 8, 47, 1);
 }
 
-// Nodes built for blocks of 24, asked with blocks of 8.
+// Nodes that are built for blocks of 24 and searched with B = 8.
 fn other_blocks() {
     say::line(b"nodes of other blocks");
     forward(SIX_BYTES, 48, 24, 0, 3);
@@ -105,7 +106,7 @@ fn put(nodes: &mut [i64], at: usize, x: i64) {
     }
 }
 
-// The nodes of 40 bits that open, in blocks of 8, with number `at` replaced.
+// Builds the nodes of 40 open bits in blocks of 8, replaces entry `at` of the buffer by x, and runs `fwd_search`.
 fn foreign(at: usize, x: i64, i: usize, r: i64) {
     let words = [0xffffffffffu64; 1];
     let mut nodes = [0i64; 36];
@@ -114,8 +115,8 @@ fn foreign(at: usize, x: i64, i: usize, r: i64) {
     tell(bp::fwd_search(&words, 40, &nodes, 8, i, r));
 }
 
-// Node 8, the second leaf, is the first that a climb from position 0 asks. Each of its numbers out of range; its total at the
-// edge of the range; a least that its bits do not reach; and a remainder further than all bits go, for which none is asked.
+// Min-max node 8, the second block leaf, is the first one that a climb from position 0 examines. The cases are: each of its entries out of
+// range; its total at the bound, which is allowed; a least that its bits do not reach; and an r above n, for which no node is examined.
 fn foreign_in_climb() {
     say::line(b"foreign nodes in a climb");
     foreign(24, 4294967297, 0, 9);
@@ -126,7 +127,8 @@ fn foreign_in_climb() {
     foreign(24, 4294967297, 0, 41);
 }
 
-// Neither child of node 4 holds; its first child is out of range; a child of node 6 is needed, and there is none.
+// The cases are: no child of min-max node 4 qualifies; the first child of node 4 has an entry out of range; the descent enters min-max node 6,
+// which has no child.
 fn foreign_in_descent() {
     say::line(b"foreign nodes in a descent");
     foreign(14, 99, 0, 35);

@@ -1,7 +1,7 @@
-// What of `levels` is run besides document 01's input: each file of data/ in the place of standard input. What it writes is compared
-// with the file stdout.
+// Runs the program `levels` on each file of data/ in place of standard input. CI compares the output with the file stdout.
 //
-// deep and wide have 4,096 parentheses; wide has its newline as byte 4,097. The three that follow them have no newline in 4,097 bytes.
+// deep and wide have 4,096 parentheses; in wide, byte 4,097 is the newline. The three files after them have no newline in their first 4,097
+// bytes.
 use libc::STDOUT_FILENO;
 
 fn case(path: &[u8]) {

@@ -1,10 +1,14 @@
-// The original's answers, replayed: this program asks the calls here what the host's program `answers` (host/original) asked the Rust of
-// docs/src over the same rows, and prints the answers in the same form. The file stdout was written by that program and by no other, so
-// that the gate compares the two without Rust at hand.
+// Asks this port the questions that the program `answers` (host/original) asks the original Rust, on the same rows, and prints the answers in
+// the same format. The file stdout is the output of `answers`. So CI compares the port with the original without a Rust compiler.
 //
-// stdin has a row a line: `()` and document 01's row T; a path 40 deep, a node with 40 children, a comb; trees drawn at random, of 60, 130 and
-// 258 bits; and rows that are no tree: one that closes first, one that stays open, two trees, a tree and an open bit. Their bits end at a
-// block's edge (8, 16, 80), at a word's (64), just past a block's (9, 17, 25, 82) and just past a word's (130, 258).
+// The file stdin has one row per line:
+// - `()` and row T
+// - a path 40 deep, an outline node with 40 children, a comb
+// - random trees of 60, 130 and 258 bits
+// - rows that are not one tree: one that starts with close bits, one with open bits left, two trees, a tree and an open bit
+//
+// Some rows end with a block (8, 16 and 80 bits) or with a word (64 bits). Some end just after a block (9, 17, 25 and 82 bits) or just after a
+// word (130 and 258 bits).
 use libc::STDIN_FILENO;
 use libc::STDOUT_FILENO;
 use list_slice::Listed;
@@ -24,7 +28,7 @@ fn say_number(n: u64) {
     io::print_decimal(STDOUT_FILENO, n);
 }
 
-// No question is refused; if one were, it would show.
+// Prints a refusal. No question of this program is refused, so a refusal would differ from the file stdout.
 fn refused(k: Refusal) {
     say(b" refused");
     say_number(row::number(k));
@@ -76,8 +80,8 @@ fn beside(words: &[u64], n: usize, nodes: &[i64], block: usize, v: usize) {
     found(bp::level_prev(words, n, nodes, block, v));
 }
 
-// An answer as a listing writes it: a position, -1 for nothing, -1 less the number for a refusal. It is read by
-// its bits: where it is below 0, their complement -1 - x is the lesser of the two.
+// Prints an answer as `list` writes it: a position, -1 for nothing, or -1 - k for refusal k. It compares the bits of x, as a u64, with their
+// complement: if x is negative, the complement is the smaller one and equals -1 - x.
 fn number(x: i64) {
     let bits = wire::to_word(x);
     let less = u64::MAX - bits;
@@ -100,7 +104,7 @@ fn numbers(out: &[i64], count: usize) {
     }
 }
 
-// No node has more than 40 children, so that the nothing at a listing's end has room.
+// Prints the children of v, in one direction. No outline node has more than 40 children, so `out` has room for the nothing at the end.
 fn children(words: &[u64], n: usize, nodes: &[i64], block: usize, rising: bool, v: usize) {
     let mut out = [0i64; 64];
     match list_slice::list(words, n, nodes, block, rising, v, &mut out) {
@@ -109,7 +113,7 @@ fn children(words: &[u64], n: usize, nodes: &[i64], block: usize, rising: bool, 
     }
 }
 
-// `before` is the node that opens before v, or v itself if it is the first.
+// Prints the answers for the outline node v. `before` is the last handle before v, or v itself if v is the first one.
 fn node(words: &[u64], n: usize, nodes: &[i64], block: usize, v: usize, before: usize) {
     around(words, n, nodes, block, v);
     told(bp::is_leaf(words, n, v));
@@ -120,7 +124,7 @@ fn node(words: &[u64], n: usize, nodes: &[i64], block: usize, v: usize, before: 
     children(words, n, nodes, block, false, v);
 }
 
-// The line of position i. `before` is the node that opened last, n where none has; it answers the one that has then.
+// Prints the line of position i. `before` is the last handle before i, or n if there is none. Returns the same for the position i + 1.
 fn position(
     words: &[u64],
     n: usize,
@@ -163,7 +167,7 @@ fn is_nothing(f: Found) -> bool {
     }
 }
 
-// The line of level k; whether neither end is found.
+// Prints the line of level k. Returns whether both ends of the level are nothing.
 fn level(words: &[u64], n: usize, nodes: &[i64], block: usize, k: u64) -> bool {
     let first = bp::level_leftmost(words, n, nodes, block, k);
     let last = bp::level_rightmost(words, n, nodes, block, k);
@@ -175,7 +179,7 @@ fn level(words: &[u64], n: usize, nodes: &[i64], block: usize, k: u64) -> bool {
     is_nothing(first) && is_nothing(last)
 }
 
-// The levels from 0 on, up to the first of which neither end is found. A row of n bits has no level n.
+// Prints the levels from 0 on, up to and with the first one whose ends are both nothing. A row of n bits has no level n.
 fn levels(words: &[u64], n: usize, nodes: &[i64], block: usize) {
     let mut k = 0;
     while k < n {
@@ -188,7 +192,7 @@ fn levels(words: &[u64], n: usize, nodes: &[i64], block: usize) {
 
 // ---- a row
 
-// 512 bits at most, so 64 leaves and 63 inner nodes.
+// Prints all answers for a row of at most 512 bits. With B = 8 it has at most 64 block leaves and 63 inner nodes, so 381 entries.
 fn answers(text: &[u8], words: &[u64], n: usize, block: usize) {
     let mut nodes = [0i64; 381];
     say(b"block");

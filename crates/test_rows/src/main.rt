@@ -1,4 +1,5 @@
-// Runs the text reader, the one-tree test, the build and the as-built test on small inputs. CI compares the output with the file stdout.
+// Runs the byte lookup, the text reader, the one-tree test, the build and the as-built test on small inputs. CI compares the output with the
+// file stdout.
 mod nodes;
 mod rows;
 mod say;

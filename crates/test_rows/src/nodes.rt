@@ -1,5 +1,5 @@
-// Builds of the node buffer on small rows and their refusals, the table of inner counts, and the as-built test on built, damaged and
-// foreign buffers.
+// Runs the build on small rows, with its refusals, and the as-built test on built, damaged and foreign buffers. Prints the number of inner
+// nodes for the numbers of block leaves in the table of SCOPE, The node buffer.
 use crate::say;
 use row::Built;
 use row::Told;
@@ -31,7 +31,7 @@ fn build(words: &[u64], n: usize, nodes: &mut [i64], block: usize) {
     tell(mmt_build::as_built(words, n, nodes, block));
 }
 
-// Whether the number at i is x.
+// Prints whether entry i of the buffer is x.
 fn number_is(nodes: &[i64], i: usize, x: i64) {
     if i < nodes.len() && nodes[i] == x {
         say::line(b"  number as given");
@@ -40,7 +40,7 @@ fn number_is(nodes: &[i64], i: usize, x: i64) {
     }
 }
 
-// Whether the three numbers from i on are these.
+// Prints whether the three entries from i on are these.
 fn node_is(nodes: &[i64], i: usize, total: i64, least: i64, greatest: i64) {
     if i < 4096 {
         number_is(nodes, i, total);
@@ -49,7 +49,7 @@ fn node_is(nodes: &[i64], i: usize, total: i64, least: i64, greatest: i64) {
     }
 }
 
-// The number at i becomes x, in the place of what a build wrote.
+// Overwrites entry i of a built buffer by x and runs the as-built test.
 fn damage(words: &[u64], n: usize, nodes: &mut [i64], block: usize, i: usize, x: i64) {
     if nodes.len() <= i {
         return;
@@ -72,7 +72,7 @@ fn row_t_nodes(nodes: &[i64]) {
     number_is(nodes, 6, 7);
 }
 
-// Row T in one block, with a number to spare.
+// Row T in one block, in a buffer with one entry more than needed.
 fn row_t() {
     let words = [27u64; 1];
     let mut nodes = [7i64; 7];
@@ -83,7 +83,7 @@ fn row_t() {
 
 const FORTY: u64 = 0x0f0f33ff01;
 
-// Forty bits in five blocks, with a number too few.
+// Forty bits in five blocks, in a buffer with one entry too few.
 fn forty_refused() {
     let words = [FORTY; 1];
     let mut nodes = [9i64; 35];
@@ -91,8 +91,8 @@ fn forty_refused() {
     number_is(&nodes, 0, 9);
 }
 
-// Nodes 5 and 6 are an inner node with a left child alone and a childless one. Blocks of 16 have the same nodes but for the lowest
-// level, so that the buffer is as built for them too; for blocks of 24 it is foreign.
+// Min-max node 5 has only a left child, and min-max node 6 has no children. For blocks of 16 the buffer is as built too, because the min-max
+// tree is the same without its lowest level. For blocks of 24 and for 39 bits it is foreign.
 fn forty_nodes(words: &[u64], nodes: &[i64]) {
     node_is(nodes, 18, 0, 0, 0);
     node_is(nodes, 15, 0, 0, 4);
@@ -115,7 +115,7 @@ fn build_two_words(n: usize, block: usize) {
     build(&words, n, &mut nodes, block);
 }
 
-// No bits, and no room for nodes.
+// The empty row and an empty buffer.
 fn build_none(block: usize) {
     let words = [5u64; 2];
     let mut nodes = [1i64; 1];

@@ -1,4 +1,5 @@
-// The named entries of the lookup table, the text reader with its refusals and the words before and after, and the one-tree test.
+// Prints the entries of the lookup table that SCOPE names. Runs the text reader, with its refusals and the words that it leaves, and the
+// one-tree test.
 use crate::say;
 use row::Read;
 use row::Told;
@@ -8,7 +9,7 @@ fn entry(b: u8) {
     say::number_line(b"entry", t[b as usize] as u64);
 }
 
-// Reads a text into two words of 64 ones, and says what came of it and what the words are then.
+// Reads a text into two words of 64 ones each. Prints the answer and the words afterwards.
 fn read(text: &[u8]) {
     let mut words = [u64::MAX; 2];
     read_into(text, &mut words);
@@ -46,7 +47,7 @@ fn tree(word: u64, n: usize) {
     }
 }
 
-// Texts of 64, 65 and 129 parentheses, one more than a word and than two words.
+// Reads texts of 64, 65 and 129 parentheses: a full word, one bit more than a word, and one bit more than the two words have.
 fn long_texts() {
     let text = [b'('; 129];
     let mut words = [0u64; 2];

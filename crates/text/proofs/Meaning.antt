@@ -64,7 +64,7 @@ module _ (s ws : List ℕ) where
         let m : i / 64 < length (wordsOf s (wordsFor (length s))) = rw words-length l in
         rw (← words-passed s ws g, List·getD-append, words-at) (word-digit s (i / 64) (i % 64) (omega arith) ∙ ap (textBit s) e)
 
-    -- For each byte of the text, the bit with its index is the bit of that parenthesis.
+    -- Bit i of the words is 1 exactly if byte i of the text is `(`.
     pub bits-are : (i : ℕ) → i < length s → bitAt (textWords s ws) i ≡ textBit s i
     bits-are i h = written i (omega arith)
 

@@ -7,9 +7,9 @@ ghost use mathlib.Core.Path.{_≡_};
 ghost use mathlib.Core.List.{_++_};
 ghost use Prim.Native.Nat.{_*_, _≤_, _<_};
 ghost use lib.ListN.{length, drop};
-ghost use Rattle.row.specs.Answer.{at, paperRead};
-ghost use Rattle.row.specs.Gates.{through};
-ghost use Rattle.text.specs.Text.{isParenthesis, allParentheses, textBit, wordOf, wordsOf, textGate, textWords};
+ghost use Rattle.row.specs.Writes.{Writes};
+ghost use Rattle.row.specs.Answer.{paperRead};
+ghost use Rattle.text.specs.Text.{isParenthesis, allParentheses, textBit, wordOf, wordsOf, textGate, readAnswer, textWords};
 use row::Gate;
 use row::Read;
 use row::Refusal;
@@ -87,8 +87,11 @@ fn admit_text(text: &[u8], words: usize) -> Gate
 
 // Reads a text into words. Returns the bit count, or refusal 2, 6 or 3.
 pub fn read_text(text: &[u8], words: &mut [u64]) -> Read
-    ensures { λ a. ⌜ paperRead a ≡ through (textGate (now (text .entry)) (length (now (words .entry)))) (at (length (now (text .entry)))) ⌝ }
-    ensures { λ a. ⌜ now (words .exit) ≡ textWords (now (text .entry)) (now (words .entry)) ⌝ }
+    ensures { λ a.
+        ⌜
+        Writes (paperRead a) (readAnswer (now (text .entry)) (now (words .entry)))
+        (now (words .exit)) (textWords (now (text .entry)) (now (words .entry)))
+        ⌝ }
 {
     match admit_text(text, words.len()) {
         Gate::Refuse(k) => Read::Refused(k),

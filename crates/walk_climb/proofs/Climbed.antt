@@ -1,7 +1,11 @@
--- A climb as the code goes it: without the count of nodes examined, and by what a node that is asked says.
---   climb-count: the count makes no difference
---   climbed-root, climbed-up, climbed-asked: one step up; rises-start, rises-on: up past the nodes that have nothing beyond them
---   Turned, turned: the node that a climb turns to
+-- Laws of the climb as the code makes it: without the count of examined nodes, and by the answer of the sibling that is asked.
+--   climb-count: the count does not change the result
+--   climbed-root: at the root, the climb leaves the tree
+--   byBeside: the result of the climb for each answer of the sibling
+--   climbed-up: at a node without a sibling beyond it, the climb goes on at the parent
+--   climbed-asked: at any other node `byBeside` is the result
+--   rises-start, rises-on: `Rises` holds at the start, and after each node without a sibling beyond it
+--   Turned, turned: the node that a climb turns to exists and has its height, and the remainder has room for a descent
 -- Assumes nothing.
 use mathlib.Core.Path.{_≡_, refl, sym, ap, _∙_}
 use mathlib.Core.Bool.{true, false}
@@ -45,7 +49,7 @@ module _ (w : Way) (m : ℕ) (s : List ℤ) where
     pub climbed-root : k ≡ 0 → Out ≡ climbedOf (climb w m s k h k r 0)
     climbed-root z = ap climbedOf (climb-root w m s h k r 0 z)
 
-    -- by what the sibling says
+    -- the result of the climb for each answer of the sibling
     abbrev pub byBeside : Asked → Climbed
     byBeside Here = Turn (siblingBeyond w k) h r
     byBeside (Past q) = climbedOf (climb w m s ((k - 1) / 2) (h + 1) ((k - 1) / 2) q 0)
@@ -66,7 +70,7 @@ module _ (w : Way) (m : ℕ) (s : List ℤ) where
           (alike byBeside climbedOf (fits x)
           (alike byBeside climbedOf (holdsOn w x r) refl (climb-count j (h + 1) j (passed w r (x .total)) 0 1)) refl))
 
--- ---- up past the nodes that have nothing beyond them
+-- ---- up past nodes without a sibling beyond them
 module _ (w : Way) (k h : ℕ) where
   pub rises-start : Rises w k h k h
   rises-start = record { under = omega arith; room = omega arith; same = λ m s r. refl }
@@ -78,9 +82,9 @@ module _ (w : Way) (k h : ℕ) where
     same = λ m s r. climbed-up w m s g j r z e ∙ p .same m s r;
   }
 
--- ---- where a climb turns, in a tree of t levels
+-- ---- the node that a climb turns to; t is the height of the root
 
--- the node is there, g levels above the leaves, and there is room for a descent
+-- the node exists and has height g, and the remainder has room for a descent
 abbrev pub Turned : ℕ → ℕ → Climbed → Type 0
 Turned m t (Turn j g q) = (j < m) × Place t g j × Room g q
 Turned m t Out = Unit {0}

@@ -1,26 +1,22 @@
-// The climb backward.
+// The climb of a backward search.
 ghost use mathlib.Core.Path.{_≡_};
-ghost use mathlib.Core.Bool.{false};
-ghost use Prim.Native.Nat.{_+_, _*_, _<_, _≤_};
+ghost use Prim.Native.Nat.{_+_, _*_, _≤_};
 ghost use lib.ListN.{length};
 ghost use Rattle.row.specs.Limits.{maxBits};
 ghost use Rattle.row.specs.Way.{backward};
-ghost use Rattle.mmt_layout.specs.Layout.{width};
-ghost use Rattle.walk_spec.specs.Walk.{lastSibling, climb};
-ghost use Rattle.walk_examine.specs.Asked.{Room};
-ghost use Rattle.walk_climb.specs.Climbed.{climbedOf, climbedOn, Higher, Rises};
+ghost use Rattle.walk_spec.specs.Walk.{climb};
+ghost use Rattle.walk_climb.specs.Climbed.{climbedOf, Above, Climbs, Part};
 use crate::path::Climbed;
 use crate::path::Place;
 use crate::path::Risen;
 use walk_examine::Asked;
 use walk_examine::ask_bwd;
 
-// Up from node k past left children, which have nothing beyond them: to a right child or to the root. A loop, since no node
-// is asked on the way and each call would cost a frame.
+// Goes up from node k at height h, past left children, to a right child or to the root. A left child has no sibling beyond it.
+// It is a loop, because it examines no node and each recursive call would cost a stack frame.
 fn right_above(k: usize, h: usize) -> Place
     requires { ⌜ h + 2 * k ≤ maxBits ⌝ }
-    ensures { λ p. ⌜ Rises backward k h (p .node) (p .height) ⌝ }
-    ensures { λ p. ⌜ ((p .node ≡ 0 → ⊥) → lastSibling backward (p .node) ≡ false) ⌝ }
+    ensures { λ p. ⌜ Above backward k h (p .node) (p .height) ⌝ }
 {
     let mut j = k;
     let mut g = h;
@@ -31,12 +27,11 @@ fn right_above(k: usize, h: usize) -> Place
     Place { node: j, height: g }
 }
 
-// Up from node k, h levels above the leaves, to the first sibling on the way, and past it where it does not hold r.
+// Goes up from node k at height h to the next right child, and asks the sibling on its left.
+// If the sibling is passed, the climb goes on at the parent with the remainder after the sibling.
 fn up_bwd(nodes: &[i64], all: usize, k: usize, h: usize, r: i64) -> Risen
-    requires { ⌜ (width * all ≤ length (now nodes)) × (k < all) ⌝ }
-    requires { ⌜ Room (h + 2 * k) r ⌝ }
-    ensures { λ a. ⌜ climbedOn backward all (now (nodes .entry)) a ≡ climbedOf (climb backward all (now (nodes .entry)) k h k r 0) ⌝ }
-    ensures { λ a. ⌜ Higher k a ⌝ }
+    requires { ⌜ Climbs all (length (now nodes)) k h r ⌝ }
+    ensures { λ a. ⌜ Part backward all (now (nodes .entry)) k h r a ⌝ }
 {
     let p = right_above(k, h);
     let j = p.node;
@@ -52,11 +47,10 @@ fn up_bwd(nodes: &[i64], all: usize, k: usize, h: usize, r: i64) -> Risen
     }
 }
 
-// Up from node k, h levels above the leaves, to a sibling that holds r. The node's index falls, with each sibling that is asked,
-// and two are asked a call, since each call costs a frame.
+// Climbs from node k at height h to a sibling that qualifies for r. The index of the node falls with each sibling that is asked.
+// One call asks up to two siblings, because each call costs a stack frame.
 pub fn climb_bwd(nodes: &[i64], all: usize, k: usize, h: usize, r: i64) -> Climbed
-    requires { ⌜ (width * all ≤ length (now nodes)) × (k < all) ⌝ }
-    requires { ⌜ Room (h + 2 * k) r ⌝ }
+    requires { ⌜ Climbs all (length (now nodes)) k h r ⌝ }
     ensures { λ a. ⌜ a ≡ climbedOf (climb backward all (now (nodes .entry)) k h k r 0) ⌝ }
 {
     match up_bwd(nodes, all, k, h, r) {

@@ -1,26 +1,22 @@
-// The climb forward.
+// The climb of a forward search.
 ghost use mathlib.Core.Path.{_≡_};
-ghost use mathlib.Core.Bool.{false};
-ghost use Prim.Native.Nat.{_+_, _*_, _<_, _≤_};
+ghost use Prim.Native.Nat.{_+_, _*_, _≤_};
 ghost use lib.ListN.{length};
 ghost use Rattle.row.specs.Limits.{maxBits};
 ghost use Rattle.row.specs.Way.{forward};
-ghost use Rattle.mmt_layout.specs.Layout.{width};
-ghost use Rattle.walk_spec.specs.Walk.{lastSibling, climb};
-ghost use Rattle.walk_examine.specs.Asked.{Room};
-ghost use Rattle.walk_climb.specs.Climbed.{climbedOf, climbedOn, Higher, Rises};
+ghost use Rattle.walk_spec.specs.Walk.{climb};
+ghost use Rattle.walk_climb.specs.Climbed.{climbedOf, Above, Climbs, Part};
 use crate::path::Climbed;
 use crate::path::Place;
 use crate::path::Risen;
 use walk_examine::Asked;
 use walk_examine::ask_fwd;
 
-// Up from node k past right children, which have nothing beyond them: to a left child or to the root. A loop, since no node
-// is asked on the way and each call would cost a frame.
+// Goes up from node k at height h, past right children, to a left child or to the root. A right child has no sibling beyond it.
+// It is a loop, because it examines no node and each recursive call would cost a stack frame.
 fn left_above(k: usize, h: usize) -> Place
     requires { ⌜ h + 2 * k ≤ maxBits ⌝ }
-    ensures { λ p. ⌜ Rises forward k h (p .node) (p .height) ⌝ }
-    ensures { λ p. ⌜ ((p .node ≡ 0 → ⊥) → lastSibling forward (p .node) ≡ false) ⌝ }
+    ensures { λ p. ⌜ Above forward k h (p .node) (p .height) ⌝ }
 {
     let mut j = k;
     let mut g = h;
@@ -31,12 +27,11 @@ fn left_above(k: usize, h: usize) -> Place
     Place { node: j, height: g }
 }
 
-// Up from node k, h levels above the leaves, to the first sibling on the way, and past it where it does not hold r.
+// Goes up from node k at height h to the next left child, and asks the sibling on its right.
+// If the sibling is passed, the climb goes on at the parent with the remainder after the sibling.
 fn up_fwd(nodes: &[i64], all: usize, k: usize, h: usize, r: i64) -> Risen
-    requires { ⌜ (width * all ≤ length (now nodes)) × (k < all) ⌝ }
-    requires { ⌜ Room (h + 2 * k) r ⌝ }
-    ensures { λ a. ⌜ climbedOn forward all (now (nodes .entry)) a ≡ climbedOf (climb forward all (now (nodes .entry)) k h k r 0) ⌝ }
-    ensures { λ a. ⌜ Higher k a ⌝ }
+    requires { ⌜ Climbs all (length (now nodes)) k h r ⌝ }
+    ensures { λ a. ⌜ Part forward all (now (nodes .entry)) k h r a ⌝ }
 {
     let p = left_above(k, h);
     let j = p.node;
@@ -52,11 +47,10 @@ fn up_fwd(nodes: &[i64], all: usize, k: usize, h: usize, r: i64) -> Risen
     }
 }
 
-// Up from node k, h levels above the leaves, to a sibling that holds r. The node's index falls, with each sibling that is asked,
-// and two are asked a call, since each call costs a frame.
+// Climbs from node k at height h to a sibling that qualifies for r. The index of the node falls with each sibling that is asked.
+// One call asks up to two siblings, because each call costs a stack frame.
 pub fn climb_fwd(nodes: &[i64], all: usize, k: usize, h: usize, r: i64) -> Climbed
-    requires { ⌜ (width * all ≤ length (now nodes)) × (k < all) ⌝ }
-    requires { ⌜ Room (h + 2 * k) r ⌝ }
+    requires { ⌜ Climbs all (length (now nodes)) k h r ⌝ }
     ensures { λ a. ⌜ a ≡ climbedOf (climb forward all (now (nodes .entry)) k h k r 0) ⌝ }
 {
     match up_fwd(nodes, all, k, h, r) {

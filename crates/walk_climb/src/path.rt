@@ -1,19 +1,20 @@
-// Where a climb goes and ends.
+// The results of a climb and of a part of it.
 
-// A node, so many levels above the leaves.
+// A min-max node and its height.
 pub struct Place {
     pub node: usize,
     pub height: usize,
 }
 
-// A climb: at the node to descend from, so many levels above the leaves, with so much left of r; or past the tree.
+// The result of a climb: `Turn` to a descent at a node, at a height, with a remainder; `Out` of the tree;
+// or `Misfit`, an examined node was out of range.
 pub enum Climbed {
     Turn(usize, usize, i64),
     Out,
     Misfit,
 }
 
-// A part of a climb: on from a node, so many levels above the leaves, with so much left of r; or at the climb's end.
+// The result of a part of a climb: `On` from a node, at a height, with a remainder; or the `End` of the climb.
 pub enum Risen {
     On(usize, usize, i64),
     End(Climbed),

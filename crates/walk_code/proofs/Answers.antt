@@ -1,9 +1,15 @@
--- The answers of the code's last parts, one law a branch.
---   leaf-hit, leaf-left: the leaf reached; start-hit, start-left: the starting block
---   beyond-out, beyond-misfit, beyond-lost, beyond-leaf: past the starting block; walk-end, walk-far, walk-starts: the whole
---   Laid, laid-out: the layout, and where a climb starts in it
---   start-room, turn-there, leaf-there: the nodes on the way are there, with room for what is left of r
---   less-fits, far-over, far-under, far-neither: the two tests of |r| > n
+-- Laws of the answers of the walk's parts, one per branch, and of the nodes on the way.
+--   Laid, laid-out: the layout, and that block leaf b, where the climb starts, exists
+--   leaf-hit, leaf-left: the answer after a hit in the target block, and without one
+--   start-hit, start-left: the same for the start block
+--   beyond-out, beyond-misfit: the answer if the climb leaves the tree, and if it is refused
+--   beyond-lost, beyond-leaf: the answer if the descent is refused, and if it reaches a block leaf
+--   start-room: the remainder has room for the climb
+--   turn-there, leaf-there: the node that the climb turns to and the block leaf reached exist, and the remainder has room there
+--   walk-end, walk-far: the walk answers nothing because of its position, or because |r| > n
+--   walk-starts: any other walk scans its start block
+--   less-fits: -n fits into an i64
+--   far-over, far-under, far-neither: the two comparisons of r with n and with -n decide whether |r| > n
 -- Assumes nothing.
 use mathlib.Core.Path.{_≡_, refl, ap, _∙_}
 use mathlib.Core.Bool.{Bool, true, false}
@@ -44,7 +50,7 @@ use Rattle.walk_descend.specs.declared.path.Descended.the-variants.{Leaf, Lost}
 use Rattle.walk_descend.specs.Descended.{descendedOf}
 use Rattle.walk_descend.proofs.Descended.{descend-count, Landed, landed}
 
--- ---- a climb and a descent by what is seen of them without the count
+-- ---- a climb or a descent, given its result without the count of examined nodes
 turn-is : (x : Climb) (k h : ℕ) (r : ℤ) → climbedOf x ≡ Turn k h r → (c : ℕ) × (x ≡ turn k h r c)
 turn-is (turn j g q c) k h r e = (c, cc)
 turn-is (out c) k h r e = let z : _≡_ {A = ℕ} 0 1 = cc in absurd (omega arith)
@@ -68,7 +74,7 @@ lost-is : (x : Descent) → descendedOf x ≡ Lost → x ≡ lost
 lost-is (leaf j q c) e = let z : _≡_ {A = ℕ} 0 1 = cc in absurd (omega arith)
 lost-is lost e = refl
 
--- ---- the layout, and block b in it
+-- ---- the layout, and the leaf of block b in it
 pub record Laid (n B b : ℕ) (x : Layout) : Type 0 where
   pub first : x .inner ≡ inner n B
   pub all : x .inner + x .leaves ≡ count n B
@@ -86,7 +92,7 @@ module _ (n B b : ℕ) (eight : 8 ≤ B) (short : n ≤ maxBits) (l : b * B < n)
   laid-out x e = record { first = ap (λ (y : Layout). y .inner) e; all = rw e (omega arith); few = count-small n B eight short; there = start-there }
 
 module _ (w : Way) (ws : List ℕ) (n : ℕ) (s : List ℤ) (B : ℕ) where
-  -- ---- the leaf reached, node k
+  -- ---- the target block, that of node k
   abbrev inside : ℕ → ℤ → Scanned
   inside k r = scan w (bitAt ws) (min B (n - (k - inner n B) * B)) ((k - inner n B) * B) r
 
@@ -100,14 +106,14 @@ module _ (w : Way) (ws : List ℕ) (n : ℕ) (s : List ℤ) (B : ℕ) where
   leaf-count (Hit j) c = refl
   leaf-count (Left q) c = refl
 
-  -- ---- the starting block b
+  -- ---- the start block b
   pub start-hit : (b j : ℕ) {x : Scanned} → x ≡ Hit j → at j ≡ inStart w ws n s B b x .answer
   start-hit b j e = rw e
 
   pub start-left : (b : ℕ) (q : ℤ) {x : Scanned} → x ≡ Left q → beyond w ws n s B b q .answer ≡ inStart w ws n s B b x .answer
   start-left b q e = rw e
 
-  -- ---- past the starting block b
+  -- ---- after the start block b
   module _ (b : ℕ) (r : ℤ) where
     abbrev climbing : Climb
     climbing = climb w (count n B) s (inner n B + b) 0 (inner n B + b) r 0
@@ -125,12 +131,13 @@ module _ (w : Way) (ws : List ℕ) (n : ℕ) (s : List ℤ) (B : ℕ) where
       pub beyond-lost : descendedOf (descend w (count n B) s h k p 0) ≡ Lost → refused 8 ≡ beyond w ws n s B b r .answer
       beyond-lost f = rw (turn-is climbing k h p e .1, lost-is (descend w (count n B) s h k p d) (descend-count w (count n B) s h k p d 0 ∙ f))
 
-      pub beyond-leaf : (j : ℕ) (q : ℤ) → descendedOf (descend w (count n B) s h k p 0) ≡ Leaf j q → land w ws n s B (leaf j q 0) .answer ≡ beyond w ws n s B b r .answer
+      pub beyond-leaf : (j : ℕ) (q : ℤ) → descendedOf (descend w (count n B) s h k p 0) ≡ Leaf j q
+          → land w ws n s B (leaf j q 0) .answer ≡ beyond w ws n s B b r .answer
       beyond-leaf j q f =
           let y = leaf-is (descend w (count n B) s h k p d) j q (descend-count w (count n B) s h k p d 0 ∙ f) in
           rw (turn-is climbing k h p e .1, y .1) (leaf-count (inside j q) (y .0))
 
-    -- the nodes on the way, from a block of the row
+    -- the nodes on the way exist, if b is a block of the row
     module _ (eight : 8 ≤ B) (short : n ≤ maxBits) (l : b * B < n) where
       module _ (o : size r ≤ (maxBits + maxBlock)) where
         pub start-room : Room (0 + 2 * (inner n B + b)) r
@@ -148,7 +155,7 @@ module _ (w : Way) (ws : List ℕ) (n : ℕ) (s : List ℤ) (B : ℕ) where
               let y : Landed (count n B) (top n B) (Leaf j q) = rw f at (landed w (count n B) s (top n B) h k p 0 (t .0) (t .1) (t .2)) in
               (omega (arith, place-leaf (top n B) j (y .1), inner-top (leaves n B), inner-is n B (omega arith)), y .0, y .2)
 
-  -- ---- the whole
+  -- ---- the whole walk
   module _ (i : ℕ) (r : ℤ) where
     pub walk-end : endsAtOnce w n i ≡ true → nothing ≡ walk w ws n s B i r .answer
     unfolding walk
@@ -164,12 +171,12 @@ module _ (w : Way) (ws : List ℕ) (n : ℕ) (s : List ℤ) (B : ℕ) where
         unfolding walk
         walk-starts x = rw (e, le-ltb n (size r) f, x)
 
--- ---- numbers
+-- ---- the test whether |r| > n
 size-in : (n : ℕ) (r : ℤ) → up r ≤ n + dn r → dn r ≤ n + up r → size r ≤ n
 size-in n (pos c) h k = omega arith
 size-in n (negsuc c) h k = omega arith
 
--- |r| > n is tested in two, over n and -n as signed numbers
+-- the code compares r with n and with -n as signed numbers; it never negates r, because the least i64 has no negation
 module _ (n : ℕ) (short : n ≤ maxBits) where
   signed : toZ w64 n ≡ pos n
   signed = toZ-pos w64 (omega arith)

@@ -1,6 +1,8 @@
--- Where a walk begins: of the starting block the bits up to a byte's edge are read first, and then the others.
---   block-bytes: a block begins at a byte's edge; few-blocks: there are no more blocks than bits
---   edge-fwd-in, edge-bwd-in: the edge is in the starting block; head-fwd, head-bwd: so the two parts are the block's
+-- The start block is scanned in two parts: first the bits up to a byte boundary, called the edge, then the other bits.
+--   block-bytes: a block begins at a byte boundary
+--   few-blocks: the index of a block is at most the position of its first bit
+--   edge-fwd-in, edge-bwd-in: the edge is not outside the start block
+--   head-fwd, head-bwd: so the two parts together are the scan of the start block
 -- Assumes nothing.
 use mathlib.Core.Path.{_≡_, refl}
 use Prim.Native.Nat.{ℕ, zero, suc, _+_, _-_, _*_, _/_, _%_, _≤_, _<_, min}

@@ -1,17 +1,14 @@
-// The walk backward.
+// The walk of a backward search.
 ghost use mathlib.Core.Path.{_≡_};
-ghost use Prim.Native.Nat.{_+_, _-_, _*_, _<_, _≤_};
+ghost use Prim.Native.Nat.{_-_, _*_};
 ghost use lib.ListN.{length};
-ghost use Rattle.row.specs.Limits.{maxBits};
-ghost use Rattle.ints.specs.Sides.{size};
 ghost use Rattle.row.specs.Answer.{paperFound};
 ghost use Rattle.row.specs.Bits.{bitAt};
 ghost use Rattle.row.specs.Way.{backward};
 ghost use Rattle.bits_stretch.specs.Scan.{scan};
-ghost use Rattle.bits_lookup.specs.Table.{IsTable};
-ghost use Rattle.mmt_layout.specs.Layout.{inner, count, Fine, maxBlock};
+ghost use Rattle.mmt_layout.specs.Layout.{Fine};
 ghost use Rattle.walk_spec.specs.Walk.{leaf, land, beyond, inStart, walk};
-ghost use Rattle.walk_examine.specs.Asked.{Room};
+ghost use Rattle.walk_code.specs.WalkParts.{RestOfStart, StartPassed, TargetBlock};
 use bits_lookup::Lookup;
 use bits_stretch::Scanned;
 use row::Found;
@@ -21,7 +18,7 @@ use walk_climb::climb_bwd;
 use walk_descend::Descended;
 use walk_descend::descend_bwd;
 
-// The leaf reached, node k, has to hold the position.
+// Scans the target block, which is the block of node k, with the remainder r. Without a hit the search is refused by 8.
 fn leaf_bwd(
     t: &Lookup,
     words: &[u64],
@@ -32,10 +29,7 @@ fn leaf_bwd(
     k: usize,
     r: i64,
 ) -> Found
-    requires { ⌜ IsTable (now t) ⌝ }
-    requires { ⌜ Fine (length (now words)) n (length (now nodes)) block ⌝ }
-    requires { ⌜ (first ≡ inner n block) × (first ≤ k) × (k < count n block) ⌝ }
-    requires { ⌜ Room 0 r ⌝ }
+    requires { ⌜ TargetBlock (now t) (length (now words)) n (length (now nodes)) block first k r ⌝ }
     ensures { λ a. ⌜ paperFound a ≡ land backward (now (words .entry)) n (now (nodes .entry)) block (leaf k r 0) .answer ⌝ }
 {
     let from = (k - first) * block;
@@ -45,7 +39,7 @@ fn leaf_bwd(
     }
 }
 
-// Past the starting block b, with r left: climb, descent and the leaf reached, one after the other.
+// Goes on after the start block b with the remainder r: climb, descent and target block.
 fn beyond_bwd(
     t: &Lookup,
     words: &[u64],
@@ -55,9 +49,7 @@ fn beyond_bwd(
     b: usize,
     r: i64,
 ) -> Found
-    requires { ⌜ IsTable (now t) ⌝ }
-    requires { ⌜ Fine (length (now words)) n (length (now nodes)) block ⌝ }
-    requires { ⌜ (b * block < n) × (size r ≤ (maxBits + maxBlock)) ⌝ }
+    requires { ⌜ StartPassed (now t) (length (now words)) n (length (now nodes)) block b r ⌝ }
     ensures { λ a. ⌜ paperFound a ≡ beyond backward (now (words .entry)) n (now (nodes .entry)) block b r .answer ⌝ }
 {
     let lay = mmt_layout::layout_of(n, block);
@@ -73,8 +65,8 @@ fn beyond_bwd(
     }
 }
 
-// The rest of the starting block b, up to a byte's edge, and past it. The table is made here and not before: most answers
-// are near, and are found among the bits from the edge on.
+// Scans the rest of the start block b below the byte boundary `edge`, and then goes on beyond the block.
+// The lookup table is created here and not earlier, because most answers are near and lie at `edge` or after it.
 fn past_edge_bwd(
     words: &[u64],
     n: usize,
@@ -84,8 +76,7 @@ fn past_edge_bwd(
     edge: usize,
     r: i64,
 ) -> Found
-    requires { ⌜ Fine (length (now words)) n (length (now nodes)) block ⌝ }
-    requires { ⌜ (b * block < n) × (b * block ≤ edge) × (edge ≤ n) × (size r + (edge - b * block) ≤ (maxBits + maxBlock)) ⌝ }
+    requires { ⌜ RestOfStart (length (now words)) n (length (now nodes)) block b (b * block) edge r ⌝ }
     ensures { λ a. ⌜ paperFound a
         ≡ inStart backward (now (words .entry)) n (now (nodes .entry)) block b
         (scan backward (bitAt (now (words .entry))) (edge - b * block) (b * block) r) .answer ⌝ }
@@ -97,7 +88,8 @@ fn past_edge_bwd(
     }
 }
 
-// The walk from position i for r, once refusals 1 to 4 are passed. A block begins at a byte's edge, so the edge is in it.
+// Walks backward from position i for the difference r. The caller has made the tests for refusals 1 to 4.
+// Blocks begin at a byte boundary, so `edge` is never before the first bit of the start block.
 pub fn walk_bwd(words: &[u64], n: usize, nodes: &[i64], block: usize, i: usize, r: i64) -> Found
     requires { ⌜ Fine (length (now words)) n (length (now nodes)) block ⌝ }
     ensures { λ a. ⌜ paperFound a ≡ walk backward (now (words .entry)) n (now (nodes .entry)) block i r .answer ⌝ }

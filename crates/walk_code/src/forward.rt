@@ -1,17 +1,14 @@
-// The walk forward.
+// The walk of a forward search.
 ghost use mathlib.Core.Path.{_≡_};
-ghost use Prim.Native.Nat.{_+_, _-_, _*_, _<_, _≤_, min};
+ghost use Prim.Native.Nat.{_+_, _-_, _*_, min};
 ghost use lib.ListN.{length};
-ghost use Rattle.row.specs.Limits.{maxBits};
-ghost use Rattle.ints.specs.Sides.{size};
 ghost use Rattle.row.specs.Answer.{paperFound};
 ghost use Rattle.row.specs.Bits.{bitAt};
 ghost use Rattle.row.specs.Way.{forward};
 ghost use Rattle.bits_stretch.specs.Scan.{scan};
-ghost use Rattle.bits_lookup.specs.Table.{IsTable};
-ghost use Rattle.mmt_layout.specs.Layout.{inner, count, Fine, maxBlock};
+ghost use Rattle.mmt_layout.specs.Layout.{Fine};
 ghost use Rattle.walk_spec.specs.Walk.{leaf, land, beyond, inStart, walk};
-ghost use Rattle.walk_examine.specs.Asked.{Room};
+ghost use Rattle.walk_code.specs.WalkParts.{RestOfStart, StartPassed, TargetBlock};
 use bits_lookup::Lookup;
 use bits_stretch::Scanned;
 use row::Found;
@@ -21,7 +18,7 @@ use walk_climb::climb_fwd;
 use walk_descend::Descended;
 use walk_descend::descend_fwd;
 
-// The leaf reached, node k, has to hold the position.
+// Scans the target block, which is the block of node k, with the remainder r. Without a hit the search is refused by 8.
 fn leaf_fwd(
     t: &Lookup,
     words: &[u64],
@@ -32,10 +29,7 @@ fn leaf_fwd(
     k: usize,
     r: i64,
 ) -> Found
-    requires { ⌜ IsTable (now t) ⌝ }
-    requires { ⌜ Fine (length (now words)) n (length (now nodes)) block ⌝ }
-    requires { ⌜ (first ≡ inner n block) × (first ≤ k) × (k < count n block) ⌝ }
-    requires { ⌜ Room 0 r ⌝ }
+    requires { ⌜ TargetBlock (now t) (length (now words)) n (length (now nodes)) block first k r ⌝ }
     ensures { λ a. ⌜ paperFound a ≡ land forward (now (words .entry)) n (now (nodes .entry)) block (leaf k r 0) .answer ⌝ }
 {
     let from = (k - first) * block;
@@ -45,7 +39,7 @@ fn leaf_fwd(
     }
 }
 
-// Past the starting block b, with r left: climb, descent and the leaf reached, one after the other.
+// Goes on after the start block b with the remainder r: climb, descent and target block.
 fn beyond_fwd(
     t: &Lookup,
     words: &[u64],
@@ -55,9 +49,7 @@ fn beyond_fwd(
     b: usize,
     r: i64,
 ) -> Found
-    requires { ⌜ IsTable (now t) ⌝ }
-    requires { ⌜ Fine (length (now words)) n (length (now nodes)) block ⌝ }
-    requires { ⌜ (b * block < n) × (size r ≤ (maxBits + maxBlock)) ⌝ }
+    requires { ⌜ StartPassed (now t) (length (now words)) n (length (now nodes)) block b r ⌝ }
     ensures { λ a. ⌜ paperFound a ≡ beyond forward (now (words .entry)) n (now (nodes .entry)) block b r .answer ⌝ }
 {
     let lay = mmt_layout::layout_of(n, block);
@@ -73,8 +65,8 @@ fn beyond_fwd(
     }
 }
 
-// The rest of the starting block b, from a byte's edge on, and past it. The table is made here and not before: most answers
-// are near, and are found among the bits before the edge.
+// Scans the rest of the start block b from `edge` on, which is a byte boundary or n, and then goes on beyond the block.
+// The lookup table is created here and not earlier, because most answers are near and lie before `edge`.
 fn past_edge_fwd(
     words: &[u64],
     n: usize,
@@ -84,8 +76,7 @@ fn past_edge_fwd(
     edge: usize,
     r: i64,
 ) -> Found
-    requires { ⌜ Fine (length (now words)) n (length (now nodes)) block ⌝ }
-    requires { ⌜ (b * block < n) × (edge ≤ min n ((b + 1) * block)) × (size r + (min n ((b + 1) * block) - edge) ≤ (maxBits + maxBlock)) ⌝ }
+    requires { ⌜ RestOfStart (length (now words)) n (length (now nodes)) block b edge (min n ((b + 1) * block)) r ⌝ }
     ensures { λ a. ⌜ paperFound a
         ≡ inStart forward (now (words .entry)) n (now (nodes .entry)) block b
         (scan forward (bitAt (now (words .entry))) (min n ((b + 1) * block) - edge) edge r) .answer ⌝ }
@@ -97,7 +88,7 @@ fn past_edge_fwd(
     }
 }
 
-// The walk from position i for r, once refusals 1 to 4 are passed.
+// Walks forward from position i for the difference r. The caller has made the tests for refusals 1 to 4.
 pub fn walk_fwd(words: &[u64], n: usize, nodes: &[i64], block: usize, i: usize, r: i64) -> Found
     requires { ⌜ Fine (length (now words)) n (length (now nodes)) block ⌝ }
     ensures { λ a. ⌜ paperFound a ≡ walk forward (now (words .entry)) n (now (nodes .entry)) block i r .answer ⌝ }

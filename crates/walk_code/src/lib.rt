@@ -1,7 +1,8 @@
-// The walk, either way: scan of the starting block, climb, descent, scan of the block reached. The climb and the descent are two
-// recursions, one after the other. The lookup's table is made only once the bits up to a byte's edge do not hold the position.
+// The walk of a search, in both directions: scan of the start block, climb, descent, scan of the target block.
+// The bits of the start block up to a byte boundary are scanned one by one. The lookup table is created only if they contain no hit.
 //
-// The nodes are lent and may be foreign; refusal 8 is given in document 01's places only.
+// Callers make the tests for refusals 1 to 4 before. The node buffer may be foreign: refusal 8 is given for the three reasons in
+// SCOPE, How a search walks (When refusal 8 is given), and for no other.
 mod backward;
 mod forward;
 

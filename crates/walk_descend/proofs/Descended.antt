@@ -1,8 +1,15 @@
--- A descent as the code goes it: without the count of nodes examined, and by what a node that is asked says.
---   descend-count: the count makes no difference
---   down-first, down-second: down by one level; descended-leaf, descended-then: by none, or by a levels and then by b
---   Reached, kept: what passes from a node to either child holds where a descent leads; Fallen, fallen: the node that a levels lead to
---   Landed, landed: the leaf that a descent reaches
+-- Laws of the descent as the code makes it: without the count of examined nodes, by the answers of the children, several levels per call.
+--   Reached: a claim holds for the node that a descent reaches
+--   Fallen: this node exists, and the remainder has room for the levels left
+--   descend-count: the count does not change the result
+--   byFirst, bySecond: the result of one level for each answer of the first child, and of the second
+--   down-first, down-second: one level down is decided by the first child, or by the second
+--   onDown: the descent goes on by b levels
+--   descended-leaf: a descent with no level left stays at its node
+--   kept: a claim that holds for the children of a node if it holds for the node also holds for the node reached
+--   descended-then: a descent by a levels and then by b levels is the descent by a + b levels
+--   fallen: `Fallen` holds after a levels
+--   Landed, landed: the node that a descent reaches exists and is a block leaf, and the remainder has room for the bits of its block
 -- Assumes nothing.
 use mathlib.Core.Path.{_≡_, refl, sym, ap}
 use mathlib.Core.Bool.{true}
@@ -29,12 +36,12 @@ use Rattle.walk_descend.specs.declared.path.Descended.{Descended}
 use Rattle.walk_descend.specs.declared.path.Descended.the-variants.{Leaf, Lost}
 use Rattle.walk_descend.specs.Descended.{descendedOf}
 
--- a claim of the node that a descent reaches, b levels above the leaves
+-- the claim P holds for the node that a descent reaches with b levels left
 abbrev pub Reached : (ℕ → ℕ → ℤ → Type 0) → ℕ → Descended → Type 0
 Reached P b (Leaf j q) = P b j q
 Reached P b Lost = Unit {0}
 
--- the node is there, and there is room for the levels left
+-- the node exists, and the remainder has room for the levels left
 abbrev pub Fallen : ℕ → ℕ → Descended → Type 0
 Fallen m b d = Reached (λ g j q. (j < m) × Room g q) b d
 
@@ -55,13 +62,14 @@ module _ (w : Way) (m : ℕ) (s : List ℤ) where
 
   -- ---- down by one level
   module _ (k : ℕ) (r : ℤ) where
-    -- by what the child says that is asked second, for q, and by what the first one says
+    -- the result of one level for each answer of the second child, which is asked for q
     abbrev pub bySecond : ℤ → Asked → Descended
     bySecond q Here = Leaf (farther w k) q
     bySecond q (Past z) = Lost
     bySecond q Absent = Lost
     bySecond q MisfitAsked = Lost
 
+    -- the result of one level for each answer of the first child
     abbrev pub byFirst : Asked → Descended
     byFirst Here = Leaf (nearer w k) r
     byFirst (Past q) = bySecond q (askedOf w m s (farther w k) q)
@@ -86,7 +94,7 @@ module _ (w : Way) (m : ℕ) (s : List ℤ) where
         → bySecond q b ≡ descendedOf (descend w m s 1 k r 0)
     down-second q e f = rw (sym f) (down-first e)
 
-  -- ---- down by a levels, and then by b
+  -- ---- down by a levels, then by b levels
   abbrev pub onDown : ℕ → Descended → Descended
   onDown b (Leaf j q) = descendedOf (descend w m s b j q 0)
   onDown b Lost = Lost
@@ -108,7 +116,7 @@ module _ (w : Way) (m : ℕ) (s : List ℤ) where
   pub descended-leaf : (h k : ℕ) (r : ℤ) → h ≡ 0 → Leaf k r ≡ descendedOf (descend w m s h k r 0)
   descended-leaf h k r z = ap descendedOf (descend-leaf w m s h k r 0 z)
 
-  -- ---- a claim of the levels left, the node and what is left of r, that passes from a node to either child
+  -- ---- a claim about the levels left, the node and the remainder; if it holds for a node, it holds for both children
   module _ (P : ℕ → ℕ → ℤ → Type 0)
       (near : (h k : ℕ) (r : ℤ) → nearer w k < m → P (suc h) k r → P h (nearer w k) r)
       (far : (h k : ℕ) (r : ℤ) (x : Summary) → fits x ≡ true → farther w k < m → P (suc h) k r → P h (farther w k) (passed w r (x .total))) where
@@ -132,7 +140,7 @@ module _ (w : Way) (m : ℕ) (s : List ℤ) where
         (λ d. tt))))
         (λ g. tt))
 
-  -- ---- of h levels, a that lead to d, and the b that are left
+  -- ---- h levels in two parts: a levels, with the result d, and the b levels left
   module _ (a b h k : ℕ) (r : ℤ) (z : h ≡ a + b) {d : Descended} (e : descendedOf (descend w m s a k r 0) ≡ d) where
     pub descended-then : onDown b d ≡ descendedOf (descend w m s h k r 0)
     descended-then = rw (z, sym e) (then-down a b k r 0)
@@ -143,9 +151,9 @@ module _ (w : Way) (m : ℕ) (s : List ℤ) where
         (kept (λ g j q. (j < m) × Room g q) (λ g j q u p. let v = p .1 in (u, omega arith))
         (λ g j q x y u p. let v = p .1 in (u, omega (arith, passed-size w q x y))) a b k r 0 (l, rw z at o))
 
--- ---- where a descent ends, in a tree of t levels
+-- ---- the end of a descent; t is the height of the root
 
--- the node is there, a leaf's, and there is room for its bits
+-- the node exists and is a block leaf, and the remainder has room for the bits of its block
 abbrev pub Landed : ℕ → ℕ → Descended → Type 0
 Landed m t d = Reached (λ g j q. (j < m) × Place t g j × Room g q) 0 d
 

@@ -1,6 +1,7 @@
-// Where a descent ends.
+// The result of a descent.
 
-// A descent: at the node reached, a leaf's where no level is left, with so much left of r.
+// `Leaf`: the node that was reached, and the remainder. It is a block leaf if no level is left.
+// `Lost`: the descent is refused.
 pub enum Descended {
     Leaf(usize, i64),
     Lost,

@@ -1,9 +1,17 @@
--- What a node says that is asked: the laws of its range test, and of an answer, one a case.
---   near-size, fits-size: a number in range is at most 2^32 large; passed-size: what is left past a node is no larger by more;
---   room-fits: what there is room for fits an i64; passed-fits: so does what is left past a node
---   examined-total, examined-least, examined-greatest, examined-fit: what the range test finds; Looked, looked: what it found
---   asked-absent, asked-misfit, asked-here, asked-past: what a node says; Says, says: what it said; past-size: what is left
---   told-no, told-yes: what a test of `!near_zero(z)` found; total-back: a total as the machine reads it back
+-- Laws of examined nodes and of asked nodes, one per case.
+--   near-size: an entry in range has a size of at most 2^32
+--   fits-size: so has the total of a node whose entries are in range
+--   passed-size: a passed node makes the remainder larger by at most 2^32
+--   room-fits: a remainder with room fits into an i64
+--   passed-fits: so does the remainder after a passed node
+--   told-no, told-yes: what the two results of the test `!near_zero(z)` say about z
+--   examined-total, examined-least, examined-greatest: the node is a misfit because of this entry
+--   examined-fit: all entries are in range
+--   Looked, looked: what each result of `examine` says about the node
+--   total-back: the total that the machine reads is the total of the node
+--   asked-absent, asked-misfit, asked-here, asked-past: the answer of a node in each of the four cases
+--   Says, says: what each answer says about the node
+--   past-size: the remainder in the answer `Past` is larger by at most 2^32
 -- Assumes nothing.
 use mathlib.Core.Path.{_≡_, refl, sym, _∙_}
 use mathlib.Core.Bool.{Bool, true, false, cond, not, _&&_}
@@ -33,7 +41,7 @@ use Rattle.walk_examine.specs.declared.ask.Asked.{Asked}
 use Rattle.walk_examine.specs.declared.ask.Asked.the-variants.{Here, Past, Absent, Misfit as MisfitAsked}
 use Rattle.walk_examine.specs.Asked.{examinedOf, askedOf, Room}
 
--- ---- how large
+-- ---- sizes
 pub near-size : (z : ℤ) → inRange z ≡ true → size z ≤ maxBits
 unfolding inRange
 near-size (pos n) e = let h = and-right (leZ (negℤ (pos maxBits)) (pos n)) (leZ (pos n) (pos maxBits)) e in omega zsum
@@ -41,7 +49,8 @@ near-size (negsuc n) e = let h = and-left (leZ (negℤ (pos maxBits)) (negsuc n)
 
 pub fits-size : (x : Summary) → fits x ≡ true → size (x .total) ≤ maxBits
 unfolding fits
-fits-size x e = near-size (x .total) (and-left (inRange (x .total)) (inRange (x .least)) (and-left (inRange (x .total) && inRange (x .least)) (inRange (x .greatest)) e))
+fits-size x e =
+    near-size (x .total) (and-left (inRange (x .total)) (inRange (x .least)) (and-left (inRange (x .total) && inRange (x .least)) (inRange (x .greatest)) e))
 
 pub passed-size : (w : Way) (r : ℤ) (x : Summary) → fits x ≡ true → size (passed w r (x .total)) ≤ size r + maxBits
 passed-size forward r x e = omega (arith, minus-size r (x .total), fits-size x e)
@@ -53,14 +62,14 @@ room-fits c r h = omega zsum
 pub passed-fits : (w : Way) (r : ℤ) (x : Summary) → fits x ≡ true → Room 0 r → SFits w64 (passed w r (x .total))
 passed-fits w r x e h = omega (zsum, passed-size w r x e)
 
--- ---- a test of `!near_zero(z)`, over z as the machine reads it back
+-- ---- the test `!near_zero(z)`, where the machine reads z back from 64 bits
 pub told-no : {z : ℤ} {b : Bool} → SFits w64 z → b ≡ inRange (toZ w64 (ofZ w64 z)) → not b ≡ true → inRange z ≡ false
 told-no {z} {b} f q e = sym (rw (toZ-ofZ w64 z f) at q) ∙ not-true b e
 
 pub told-yes : {z : ℤ} {b : Bool} → SFits w64 z → b ≡ inRange (toZ w64 (ofZ w64 z)) → not b ≡ false → inRange z ≡ true
 told-yes {z} {b} f q e = sym (rw (toZ-ofZ w64 z f) at q) ∙ not-false b e
 
--- ---- a node's numbers
+-- ---- an examined node with the entries x
 module _ (x : Summary) where
   pub examined-total : inRange (x .total) ≡ false → MisfitNode ≡ examinedOf x
   unfolding examinedOf fits
@@ -78,7 +87,7 @@ module _ (x : Summary) where
   unfolding examinedOf fits
   examined-fit p q t = rw (p, q, t)
 
-  -- what an answer says
+  -- what each result of `examine` says about x
   abbrev pub Looked : Examined → Type 0
   Looked (Fit y) = (fits x ≡ true) × (x ≡ y)
   Looked MisfitNode = fits x ≡ false
@@ -94,7 +103,7 @@ module _ (x : Summary) where
   pub total-back : {y : Summary} → Looked (Fit y) → toZ w64 (ofZ w64 (y .total)) ≡ x .total
   total-back {y} l = rw (sym (l .1)) (toZ-ofZ w64 (x .total) (omega (zsum, fits-size x (l .0))))
 
--- ---- node k of m, asked for r
+-- ---- node k of m nodes, asked for the remainder r
 module _ (w : Way) (m : ℕ) (s : List ℤ) (k : ℕ) (r : ℤ) where
   pub asked-absent : m ≤ k → Absent ≡ askedOf w m s k r
   unfolding askedOf
@@ -114,7 +123,7 @@ module _ (w : Way) (m : ℕ) (s : List ℤ) (k : ℕ) (r : ℤ) where
       unfolding askedOf
       asked-past y = rw (lt-leb m k l, f, y)
 
-  -- what an answer says
+  -- what each answer says about node k
   abbrev pub Says : Asked → Type 0
   Says Here = (k < m) × (fits (nodeAt s k) ≡ true) × (holdsOn w (nodeAt s k) r ≡ true)
   Says (Past q) = (k < m) × (fits (nodeAt s k) ≡ true) × (holdsOn w (nodeAt s k) r ≡ false) × (passed w r (nodeAt s k .total) ≡ q)

@@ -1,4 +1,4 @@
-// A node asked whether it holds what is looked for.
+// A min-max node is examined, and asked whether it qualifies for the remainder r (SCOPE, How a search walks: Scan, examine, qualify).
 ghost use mathlib.Core.Path.{_≡_};
 ghost use Prim.Native.Nat.{_+_, _*_, _≤_};
 ghost use lib.ListN.{length};
@@ -6,16 +6,17 @@ ghost use Rattle.row.specs.Way.{forward, backward};
 ghost use Rattle.mmt_layout.specs.Layout.{width};
 ghost use Rattle.mmt_node.specs.Nodes.{nodeAt};
 ghost use Rattle.walk_spec.specs.Walk.{inRange};
-ghost use Rattle.walk_examine.specs.Asked.{examinedOf, askedOf, Room};
+ghost use Rattle.walk_examine.specs.Asked.{examinedOf, askedOf, Askable};
 use bits_stretch::Summary;
 
-// A node's numbers, or that one of them is outside -2^32..2^32.
+// The entries of a node, or `Misfit` if one of them is below -2^32 or above 2^32.
 pub enum Examined {
     Fit(Summary),
     Misfit,
 }
 
-// What a node says: that it holds r; what is left of r past it; that it is not there; that a number of it is out of range.
+// The answer of a node that is asked for a remainder: it qualifies (`Here`); it is passed, with the remainder after it (`Past`);
+// it does not exist (`Absent`); an entry is out of range (`Misfit`).
 pub enum Asked {
     Here,
     Past(i64),
@@ -23,18 +24,20 @@ pub enum Asked {
     Misfit,
 }
 
-// The range of a node number: no row has more than 2^32 bits, so no excess of one lies further from 0.
+// The bounds of an entry that is in range. No row has more than 2^32 bits, so no value of a summary is beyond them.
 const LOWEST: i64 = -4294967296;
 
 const HIGHEST: i64 = 4294967296;
 
+// Tests whether an entry is in range: at least -2^32 and at most 2^32.
 fn near_zero(x: i64) -> bool
     ensures { λ b. ⌜ b ≡ inRange x ⌝ }
 {
     LOWEST <= x && x <= HIGHEST
 }
 
-// The one place where a lent node is looked at: its numbers, whether used or not, are tested for range.
+// Reads the three entries of node k and tests each of them for range, whether it is used or not.
+// No other code of a walk reads the node buffer.
 pub fn examine(nodes: &[i64], k: usize) -> Examined
     requires { ⌜ width * (k + 1) ≤ length (now nodes) ⌝ }
     ensures { λ a. ⌜ a ≡ examinedOf (nodeAt (now (nodes .entry)) k) ⌝ }
@@ -52,10 +55,9 @@ pub fn examine(nodes: &[i64], k: usize) -> Examined
     Examined::Fit(x)
 }
 
-// Node k of all, asked forward.
+// Asks node k for the remainder r in a forward walk. There are `all` nodes.
 pub fn ask_fwd(nodes: &[i64], all: usize, k: usize, r: i64) -> Asked
-    requires { ⌜ width * all ≤ length (now nodes) ⌝ }
-    requires { ⌜ Room 0 r ⌝ }
+    requires { ⌜ Askable all (length (now nodes)) r ⌝ }
     ensures { λ a. ⌜ a ≡ askedOf forward all (now (nodes .entry)) k r ⌝ }
 {
     if all <= k {
@@ -73,10 +75,10 @@ pub fn ask_fwd(nodes: &[i64], all: usize, k: usize, r: i64) -> Asked
     }
 }
 
-// Node k of all, asked backward: what is looked for is counted from the node's end, so s from its beginning.
+// Asks node k for the remainder r in a backward walk. There are `all` nodes.
+// r counts from the end of the node's bits; least and greatest count from their start, as s = r + total does.
 pub fn ask_bwd(nodes: &[i64], all: usize, k: usize, r: i64) -> Asked
-    requires { ⌜ width * all ≤ length (now nodes) ⌝ }
-    requires { ⌜ Room 0 r ⌝ }
+    requires { ⌜ Askable all (length (now nodes)) r ⌝ }
     ensures { λ a. ⌜ a ≡ askedOf backward all (now (nodes .entry)) k r ⌝ }
 {
     if all <= k {

@@ -1,7 +1,7 @@
-// A node examined: its numbers, and whether it holds what is looked for.
+// Examines one min-max node: tests its three entries for range, and decides whether it qualifies for a remainder.
 //
-// The nodes are lent and may be foreign. Every node that is asked has its three numbers tested for range, so that no sum
-// leaves an i64.
+// The node buffer may be foreign. The range test comes before any use of an entry, so no sum leaves an i64.
+// A node that is out of range is an answer here (`Misfit`); the callers make it refusal 8.
 mod ask;
 
 pub use ask::Asked;

@@ -139,7 +139,8 @@ module _ (ws : List ℕ) (n : ℕ) (s : List ℤ) (B : ℕ) (pB : 0 < B) (some :
     at-root : (h k : ℕ) (r : ℤ) (c : ℕ) → k ≡ 0 → Place (top n B) h k → Found h k r c
     at-root h k r c e p = rw (← climb-root w (count n B) s h k r c e, rest-root ws n B pB w h k r e p)
 
-    to-parent : (f : ℕ) → Finds f → (h k : ℕ) (r : ℤ) (c : ℕ) → k ≤ suc f → Place (top n B) h k → startOf n B h k < n → (r ≡ pos 0 → ⊥) → (k ≡ 0 → ⊥) → Found h k r c
+    to-parent : (f : ℕ) → Finds f → (h k : ℕ) (r : ℤ) (c : ℕ) → k ≤ suc f → Place (top n B) h k → startOf n B h k < n → (r ≡ pos 0 → ⊥)
+        → (k ≡ 0 → ⊥) → Found h k r c
     to-parent f rec h k r c l p a z o = go (lastSibling w k) refl
       where
         pp : Place (top n B) (suc h) ((k - 1) / 2)

@@ -97,11 +97,12 @@ module _ (n B : ℕ) where
     far-in forward h k j i = let b = right-bounds h (2 * k + 2) k refl in (omega arith, omega arith)
     far-in backward h k j i = let b = left-bounds h (2 * k + 1) k refl in (omega arith, omega arith)
 
-    -- a position beyond the parent of node k is beyond node k; so is a position among the bits of the sibling beyond it
+    -- a position beyond the parent of node k is beyond node k
     parent-beyond : (w : Way) (h k j : ℕ) → 0 < k → Beyond w (suc h) ((k - 1) / 2) j → Beyond w h k j
     parent-beyond forward h k j z b = let c = child-bounds h k z in (omega arith, b .1)
     parent-beyond backward h k j z b = let c = child-bounds h k z in omega arith
 
+    -- a position among the bits of the sibling beyond node k is beyond node k
     sibling-beyond : (w : Way) (h k j : ℕ) → 0 < k → In h (siblingBeyond w k) j → Beyond w h k j
     sibling-beyond forward h k j z i = let a = rw add-one at i in (a .0, omega (arith, a .1, start-le n B pB h (suc (suc k))))
     sibling-beyond backward h k j z i = let e : suc (k - 1) ≡ k = omega arith in rw e at (i .1)
@@ -110,10 +111,11 @@ module _ (w : Way) (ws : List ℕ) (n : ℕ) (s : List ℤ) (B : ℕ) (pB : 0 < 
   abbrev m : ℕ
   m = count n B
 
-  -- the answer after a descent from node k, and the answer after a climb from it
+  -- the answer after a descent from node k
   abbrev down : ℕ → ℕ → ℤ → ℕ → Answer
   down h k r c = land w ws n s B (descend w m s h k r c) .answer
 
+  -- the answer after a climb from node k
   abbrev up : ℕ → ℕ → ℕ → ℤ → ℕ → Answer
   up f h k r c = afterClimb w ws n s B (climb w m s f h k r c) .answer
 

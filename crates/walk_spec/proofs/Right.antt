@@ -59,7 +59,7 @@ abbrev pub remaining : Way → List ℕ → ℕ → ℕ → ℤ → Scanned
 remaining forward ws n i = over forward (bitAt ws) (suc i) n
 remaining backward ws n i = over backward (bitAt ws) 0 i
 
--- if neither of two tests holds, the first does not hold and the second does not hold
+-- if `a || b` is false, both a and b are false
 neither : (a b : Bool) → (a || b) ≡ false → (a ≡ false) × (b ≡ false)
 neither true b e = absurd (true≢false e)
 neither false b e = (refl, e)

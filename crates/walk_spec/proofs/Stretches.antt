@@ -138,7 +138,8 @@ module _ (ws : List ℕ) (n B : ℕ) (pB : 0 < B) where
 
       pub block-end : startOf n B 0 (suc (inner n B + b)) ≡ min n ((b + 1) * B)
       unfolding blockAt
-      block-end = let e : suc (inner n B + b) ≡ innerFor (leaves n B) + suc b = omega (arith, inner-is n B some) in rw (e, add-one b) (start-leaf n B pB (suc b))
+      block-end =
+          let e : suc (inner n B + b) ≡ innerFor (leaves n B) + suc b = omega (arith, inner-is n B some) in rw (e, add-one b) (start-leaf n B pB (suc b))
 
     pub leaf-bits : (w : Way) (k : ℕ) (r : ℤ) → Place (top n B) 0 k → k < count n B
         → bitsOf w ws n B 0 k r ≡ scan w (bitAt ws) (min B (n - (k - inner n B) * B)) ((k - inner n B) * B) r

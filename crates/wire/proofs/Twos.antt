@@ -1,11 +1,11 @@
--- Two's complement by -1 - x. Unlike -x, this difference exists for every i64.
+-- Two's complement by -1 - x. Unlike -x, this difference exists for every i64. `negsuc n` is the integer -(n + 1).
 --   under: -1 minus n is `negsuc n`
 --   over: -1 minus `negsuc n` is n
 --   high: a word of 2^63 or more encodes -1 minus its complement
 --   Neg, neg: a negative i64 is `negsuc m` with m below 2^63
 --   Pos, non: an i64 that is not negative is `pos m` with m below 2^63
---   flip: for a negative z the machine computes -1 - z as m
---   back: the greatest u64 minus m has the bits of z
+--   flip: for z = `negsuc m` the machine computes -1 - z as m
+--   back: for z = `negsuc m` the greatest u64 minus m has the bits of z
 -- Assumes nothing.
 use mathlib.Core.Path.{_≡_, refl, sym, ap, _∙_}
 use mathlib.Core.Bool.{Bool, true, false}

@@ -1,15 +1,26 @@
 -- Words and signed numbers in bytes: eight bytes each, the least significant byte first (SCOPE, The C functions).
 -- Assumes nothing.
+use mathlib.Core.Path.{_≡_}
 use mathlib.Core.List.{List, [], _∷_, _++_, map}
-use Prim.Native.Nat.{ℕ, zero, suc, _+_, _*_, _/_, _%_}
+use Prim.Native.Nat.{ℕ, zero, suc, _+_, _*_, _/_, _%_, _<_}
 use lib.IntN.{ℤ}
 use lib.ListN.{length, getD, take, drop}
 use mir.Syntax.{w64}
 use mir.Val.{toZ, ofZ}
 
+-- r is the byte x; a byte is below 256
+pub record Byte (r x : ℕ) : Type 0 where
+  pub value : r ≡ x
+  pub small : r < 256
+
 -- The number in the four bytes from i on.
 unfoldable pub halfAt : List ℕ → ℕ → ℕ
 halfAt s i = getD s i 0 + 256 * getD s (i + 1) 0 + 65536 * getD s (i + 2) 0 + 16777216 * getD s (i + 3) 0
+
+-- r is the number in the four bytes from i on, and it is below 2^32.
+pub record Half (r : ℕ) (s : List ℕ) (i : ℕ) : Type 0 where
+  pub value : r ≡ halfAt s i
+  pub small : r < 4294967296
 
 -- The word in the eight bytes from i on.
 unfoldable pub wordAt : List ℕ → ℕ → ℕ

@@ -4,7 +4,7 @@ ghost use Prim.Native.Nat.{_+_, _≤_, _<_};
 ghost use lib.ListN.{length};
 ghost use mir.Syntax.{w64};
 ghost use mir.Val.{toZ, ofZ};
-ghost use Rattle.wire.specs.Bytes.{halfAt, wordAt, numberAt, putAt};
+ghost use Rattle.wire.specs.Bytes.{Byte, Half, wordAt, numberAt, putAt};
 
 // 2^63. A word of this value or more encodes a negative number.
 const SIGN: u64 = 9223372036854775808;
@@ -32,7 +32,7 @@ pub fn to_word(z: i64) -> u64
 }
 
 fn wide(x: u8) -> u64
-    ensures { λ r. ⌜ (r ≡ x) × (r < 256) ⌝ }
+    ensures { λ r. ⌜ Byte r x ⌝ }
 {
     x as u64
 }
@@ -40,7 +40,7 @@ fn wide(x: u8) -> u64
 // Returns the number in the four bytes from i on.
 fn half(b: &[u8], i: usize) -> u64
     requires { ⌜ i + 4 ≤ length (now b) ⌝ }
-    ensures { λ r. ⌜ (r ≡ halfAt (now (b .entry)) i) × (r < 4294967296) ⌝ }
+    ensures { λ r. ⌜ Half r (now (b .entry)) i ⌝ }
 {
     wide(b[i]) + 256 * wide(b[i + 1]) + 65536 * wide(b[i + 2]) + 16777216 * wide(b[i + 3])
 }

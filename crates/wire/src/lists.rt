@@ -2,6 +2,7 @@
 ghost use mathlib.Core.Path.{_≡_};
 ghost use Prim.Native.Nat.{_*_, _≤_};
 ghost use lib.ListN.{length, take};
+ghost use Rattle.row.specs.Writes.{Writes};
 ghost use Rattle.wire.specs.Limit.{fit};
 ghost use Rattle.wire.specs.Bytes.{wordsIn, numbersIn, wordsOver, numbersOver};
 use crate::bytes::number;
@@ -36,8 +37,11 @@ fn read_numbers(bytes: &[u8], out: &mut [i64])
 
 // Decodes the words of `bytes` into `out`, as many as `out` has room for. Returns how many.
 pub fn take_words(bytes: &[u8], out: &mut [u64]) -> usize
-    ensures { λ r. ⌜ r ≡ fit (length (now (bytes .entry))) (length (now (out .entry))) ⌝ }
-    ensures { λ r. ⌜ take r (now (out .exit)) ≡ wordsIn (now (bytes .entry)) r ⌝ }
+    ensures { λ r.
+        ⌜
+        Writes r (fit (length (now (bytes .entry))) (length (now (out .entry))))
+        (take r (now (out .exit))) (wordsIn (now (bytes .entry)) r)
+        ⌝ }
 {
     let c = fitting(bytes.len(), out.len());
     read_words(bytes, &mut out[..c]);
@@ -46,8 +50,11 @@ pub fn take_words(bytes: &[u8], out: &mut [u64]) -> usize
 
 // Decodes the signed numbers of `bytes` into `out`, as many as `out` has room for. Returns how many.
 pub fn take_numbers(bytes: &[u8], out: &mut [i64]) -> usize
-    ensures { λ r. ⌜ r ≡ fit (length (now (bytes .entry))) (length (now (out .entry))) ⌝ }
-    ensures { λ r. ⌜ take r (now (out .exit)) ≡ numbersIn (now (bytes .entry)) r ⌝ }
+    ensures { λ r.
+        ⌜
+        Writes r (fit (length (now (bytes .entry))) (length (now (out .entry))))
+        (take r (now (out .exit))) (numbersIn (now (bytes .entry)) r)
+        ⌝ }
 {
     let c = fitting(bytes.len(), out.len());
     read_numbers(bytes, &mut out[..c]);

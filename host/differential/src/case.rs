@@ -2,7 +2,7 @@ use std::hint::black_box;
 
 use crate::known::Known;
 use crate::ours;
-use crate::plain::{self, Lent, MOST_BYTES, MOST_WORDS};
+use crate::plain::{self, Passed, MOST_BYTES, MOST_WORDS};
 use crate::theirs::{original_over, Original};
 use crate::{Answer, Call, Rng, Row, Tally, BLOCKS};
 
@@ -39,7 +39,7 @@ struct Copies {
 impl Case {
     /// Creates a case from any arguments.
     pub fn new(words: Vec<u64>, bits: u64, nodes: Vec<i64>, block: u64, rng: &mut Rng) -> Self {
-        let lent = Lent { words: &words, bits, nodes: &nodes, block, most: MOST_WORDS };
+        let lent = Passed { words: &words, bits, nodes: &nodes, block, most: MOST_WORDS };
         let standing = lent.admit();
         let as_built = standing.is_ok() && lent.as_built();
         let row = lent.admit_row().map(|()| Row::of_words(&words, bits as usize)).ok();
@@ -57,7 +57,7 @@ impl Case {
     /// Creates a case with a node buffer as built. It has surplus words, surplus entries, and random bits past the end of the row.
     pub fn built(row: &Row, block: u64, rng: &mut Rng) -> Self {
         let words = row.with_surplus(rng);
-        let mut nodes = Lent { words: &words, bits: row.bits as u64, nodes: &[], block, most: MOST_WORDS }.build();
+        let mut nodes = Passed { words: &words, bits: row.bits as u64, nodes: &[], block, most: MOST_WORDS }.build();
         nodes.extend((0..rng.below(4)).map(|_| rng.any() as i64));
         Case::new(words, row.bits as u64, nodes, block, rng)
     }
@@ -128,8 +128,8 @@ impl Case {
         }
     }
 
-    fn lent(&self, most: u64) -> Lent<'_> {
-        Lent { words: &self.words, bits: self.bits, nodes: &self.nodes, block: self.block, most }
+    fn lent(&self, most: u64) -> Passed<'_> {
+        Passed { words: &self.words, bits: self.bits, nodes: &self.nodes, block: self.block, most }
     }
 
     fn same(&self, way: &str, call: Call, ours: &Answer, other: &str, theirs: &Answer) {

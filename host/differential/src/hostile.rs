@@ -1,6 +1,6 @@
 //! Wrong arguments: damaged node buffers, foreign node buffers, wrong bit counts and block sizes, short slices.
 
-use crate::plain::Lent;
+use crate::plain::Passed;
 use crate::{rows, Case, Rng, Row};
 
 /// Creates a case that starts with a node buffer as built and then gets one or two random faults.
@@ -26,7 +26,7 @@ pub fn any(rng: &mut Rng, most: usize) -> Case {
 
 /// Returns the entries that a build writes for a row.
 fn build(row: &Row, block: u64) -> Vec<i64> {
-    Lent { words: &row.words, bits: row.bits as u64, nodes: &[], block, most: u64::MAX }.build()
+    Passed { words: &row.words, bits: row.bits as u64, nodes: &[], block, most: u64::MAX }.build()
 }
 
 /// Returns a valid block size: one that the original is compiled for, or another.

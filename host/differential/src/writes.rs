@@ -1,7 +1,7 @@
 //! Comparison of the two calls that write rows and node buffers: the build and the text reader.
 
 use crate::ours::{bytes_of, numbers_of};
-use crate::plain::{self, Lent, MOST_BYTES, MOST_WORDS};
+use crate::plain::{self, Passed, MOST_BYTES, MOST_WORDS};
 use crate::{Rng, Row, Tally};
 
 /// Compares builds over words and over bytes with `plain`, and the entries also with the original.
@@ -12,7 +12,7 @@ pub fn check_build(words: &[u64], bits: u64, nodes: &[i64], block: u64, rng: &mu
     let told =
         |way: &str| format!("build over {way}: bits {bits}, block {block}, {} entries, words {words:x?}", nodes.len());
 
-    let lent = |most| Lent { words, bits, nodes, block, most };
+    let lent = |most| Passed { words, bits, nodes, block, most };
     let (wanted, left) = written(lent(MOST_WORDS), nodes);
     let mut ours = nodes.to_vec();
     let answer = vault::words::build(words, bits, &mut ours, block).map_err(|refusal| refusal.number());
@@ -36,7 +36,7 @@ pub fn check_build(words: &[u64], bits: u64, nodes: &[i64], block: u64, rng: &mu
 }
 
 /// Returns the answer that a build has to give, and the content that its node buffer has to have afterwards.
-fn written(lent: Lent, nodes: &[i64]) -> (Result<(), u8>, Vec<i64>) {
+fn written(lent: Passed, nodes: &[i64]) -> (Result<(), u8>, Vec<i64>) {
     let mut left = nodes.to_vec();
     let answer = lent.admit();
     if answer.is_ok() {

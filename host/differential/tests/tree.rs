@@ -2,7 +2,7 @@
 //!
 //! The trees come from `Tree::build`, and from `Tree::from_parts` with any node buffer.
 
-use differential::plain::{self, Lent, MOST_WORDS};
+use differential::plain::{self, Passed, MOST_WORDS};
 use differential::{hostile, rows, Answer, Call, Case, Rng};
 use vault::{Children, Refusal, Tree};
 
@@ -54,7 +54,7 @@ fn steps(children: Result<Children, Refusal>, room: usize) -> Answer {
 
 /// Compares 100 random calls on a tree.
 fn check(case: &Case, tree: &Tree, rng: &mut Rng) {
-    let lent = Lent { words: &case.words, bits: case.bits, nodes: &case.nodes, block: case.block, most: MOST_WORDS };
+    let lent = Passed { words: &case.words, bits: case.bits, nodes: &case.nodes, block: case.block, most: MOST_WORDS };
     for _ in 0..100 {
         let call = Call::any(rng, case);
         assert_eq!(ask(tree, call), plain::ask(lent, call), "{call:?} of {tree:?}");

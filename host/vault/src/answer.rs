@@ -3,12 +3,12 @@
 //! | value | meaning |
 //! |---|---|
 //! | 0 or more | a position, a count, 1 for yes, 0 for no, or 0 for a successful build |
-//! | -1 | nothing |
-//! | -1 - k | refusal k |
+//! | -1 | nothing: there is no such position |
+//! | -2 to -9 | refusal k, which has the value `-(k + 1)` |
 
 use crate::Refusal;
 
-/// Returns the refusal that an answer below -1 encodes. Panics if there is none.
+/// Returns the refusal that an answer below -1 encodes. Panics if the answer encodes none.
 fn refusal(answer: i64) -> Refusal {
     let of_number = |refusal: &&Refusal| -1 - i64::from(refusal.number()) == answer;
     *Refusal::ALL.iter().find(of_number).unwrap_or_else(|| panic!("the C functions never answer {answer}"))

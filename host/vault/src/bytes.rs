@@ -1,8 +1,12 @@
 //! The calls over byte slices, for rows of up to 4,096 bits. They serve callers that receive rows and node buffers as bytes.
 //!
-//! A row word and an entry of the node buffer are eight bytes each, with the least significant byte first. Negative entries
-//! are in two's complement. Bytes after the last complete group of eight do not count.
+//! These items have eight bytes each, with the least significant byte first: a word of the row, an entry of the node buffer,
+//! and a value that [`children`] or [`rev_children`] writes. Negative values are in two's complement.
+//! If the length of such a slice is not a multiple of 8, the one to seven bytes at its end are ignored.
 //! The first bit of the row is therefore the least significant bit of the first byte.
+//!
+//! The text of [`read_text`] has one byte per parenthesis, and its length need not be a multiple of 8.
+//! [`read_text`] takes no bit count and tests refusals 2, 6 and 3, in this order.
 //!
 //! The functions and their refusals are those of [`words`](crate::words), except that
 //! [`TooManyBits`](crate::Refusal::TooManyBits) starts above 4,096 bits.

@@ -4,14 +4,14 @@ use crate::{Refusal, Tree};
 
 /// An iterator over the handles of the children of an outline node.
 ///
-/// With a node buffer as built every item is `Ok`. With any other node buffer the search for the next child can refuse. The
-/// refusal is then the last item.
+/// With a node buffer as built every item is `Ok`. With any other node buffer an item can be a wrong position, or the search
+/// for the next item can refuse. A refusal is the last item.
 #[derive(Clone, Debug)]
 pub struct Children<'t, 'a> {
     tree: &'t Tree<'a>,
     /// Whether the order is from the first child to the last.
     rising: bool,
-    /// The item that the next step returns.
+    /// The next item, or `Ok(None)` after the last one.
     held: Result<Option<usize>, Refusal>,
 }
 
@@ -28,7 +28,7 @@ impl<'t, 'a> Children<'t, 'a> {
         Ok(Children { tree, rising: false, held: Ok(last) })
     }
 
-    /// Returns the child that follows `child` in the order of this listing.
+    /// Returns the child that follows `child` in the order of this iterator.
     #[inline]
     fn after(&self, child: usize) -> Result<Option<usize>, Refusal> {
         if self.rising {

@@ -1,7 +1,7 @@
 //! Navigation in outlines that are stored as rows of parentheses, one bit per parenthesis.
 //!
-//! A [`Tree`] holds a row and its node buffer. The node buffer is an index over the row: with it, a search skips the bits
-//! between a question and a distant answer. Parse or build a tree, or create one from existing slices:
+//! A [`Tree`] holds a row and its node buffer. The node buffer is an index over the row: with it, a search skips most of the
+//! bits between its start and a distant answer. Parse a text, build a tree from a row, or create one from existing slices:
 //!
 //! ```
 //! use vault::{Refusal, Tree};
@@ -18,23 +18,37 @@
 //!
 //! | term | meaning |
 //! |---|---|
-//! | row | 64-bit words and a bit count `n`; a 1 bit is an open bit, `(`, and a 0 bit is a close bit, `)` |
+//! | row | 64-bit words and a bit count `bits`; a 1 bit is an open bit, `(`, and a 0 bit is a close bit, `)` |
 //! | position | the index of a bit in the row, from 0 |
 //! | excess `E(k)` | open bits minus close bits among the first `k` bits |
 //! | outline node | a node of the tree that the row encodes: a pair of matching parentheses |
-//! | handle | the position of the open bit of an outline node; it names the node |
+//! | handle | a position below `bits` whose bit is an open bit; it names an outline node if the bit has a matching close bit |
 //! | level | the number of outline nodes around an outline node; the root has level 0 |
-//! | block | `B` consecutive bits, where `B` is the block size; the last block may be shorter |
+//! | block | the row is cut into blocks of `block` bits; the last block may be shorter |
 //! | node buffer | the entries of the min-max tree, the index over the row: three `i64` entries per node of that tree |
-//! | as built | said of a node buffer that begins with exactly the entries that a build writes for the row, `n` and `B` |
+//! | as built | of a node buffer: it begins with exactly the entries that a build writes for this row, `bits` and `block` |
+//!
+//! The block size `block` is a multiple of 8 from 8 to 65,536. [`Tree::BLOCK`], which is 512, is a good first choice.
+//! The calls on outline nodes accept every open bit as a handle, also one without a matching close bit.
+//!
+//! # Size of the node buffer
+//!
+//! A row without bits needs no entries. Any other row needs `3 * (leaves + inner)` entries:
+//!
+//! - `leaves` is `bits / block`, rounded up;
+//! - `inner` is one less than the least power of two that is at least `leaves`, but at least 1.
 //!
 //! # Answers
 //!
-//! A call returns `Ok(Some(..))`, `Ok(None)` if there is nothing to return, or a [`Refusal`] if it cannot answer. Every call
-//! terminates, and no input makes it panic.
+//! Most calls return `Ok(Some(..))`, `Ok(None)` if there is no such position, or `Err` with a [`Refusal`] if they cannot
+//! answer. A call that always has an answer returns it without the `Option`. A call of [`Tree`] that never refuses returns
+//! its answer without the `Result`. Every call terminates, and no input makes it panic.
 //!
-//! The answers come from proved code in two static libraries. The modules [`words`] and [`bytes`] give direct access to its
-//! functions, over slices that the caller passes.
+//! **With a node buffer that is not as built, a call can return a wrong answer instead of [`Refusal::NodesMisfit`].** Test a
+//! node buffer that you did not build with [`Tree::is_as_built`] or [`words::as_built`].
+//!
+//! The answers come from proved code in two static libraries. The modules [`words`] and [`bytes`] give direct access to the
+//! functions of the libraries, over slices that the caller passes.
 #![deny(unsafe_code)]
 
 #[cfg(not(all(target_arch = "x86_64", target_os = "linux")))]

@@ -1,7 +1,7 @@
 use std::error::Error;
 use std::fmt;
 
-/// The reason why a call refuses to answer. The numbers are those of SCOPE, Refusals (`docs/SCOPE.md`).
+/// The reason why a call cannot answer. The numbers are those of SCOPE, Refusals (`docs/SCOPE.md`).
 ///
 /// ```
 /// use vault::{Refusal, Tree};
@@ -22,13 +22,14 @@ pub enum Refusal {
     TooFewWords = 3,
     /// The node buffer has fewer entries than the bit count and the block size need.
     TooFewNodes = 4,
-    /// A handle argument is past the end of the row, or its bit is a close bit.
+    /// `node`, `ancestor` or `descendant` is not a handle: it is not below the bit count, or its bit is a close bit.
     NotAHandle = 5,
     /// The text contains a byte that is neither `(` nor `)`.
     NotAParenthesis = 6,
-    /// The row is not one tree. Only the program `levels` refuses for this reason, no call of this crate does.
+    /// The row is not one tree. No call of this crate returns this refusal; the program `levels` does.
     NotOneTree = 7,
-    /// The node buffer does not fit the row: a search met an entry out of range, or the entries led it to a dead end.
+    /// The node buffer does not fit the row. A search met an entry outside -2^32 to 2^32, or the entries announced a position
+    /// that the search then did not find.
     NodesMisfit = 8,
 }
 

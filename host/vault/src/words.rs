@@ -1,14 +1,20 @@
 //! The calls over slices of words and node buffer entries, for rows of up to 2^32 bits. [`Tree`](crate::Tree) uses them.
 //!
-//! Every call takes the row and its bit count. Calls that need the min-max tree also take the node buffer and the block size.
-//! A call tests all its arguments, in the order of the refusal numbers, and borrows the slices only while it runs.
-//!
-//! - A call on a position accepts any number. It returns `Ok(None)` if the position is past the end of the row.
+//! - Every call except [`read_text`] takes the row and its bit count `bits`.
+//! - Calls that need the min-max tree also take the node buffer `nodes` and the block size `block`.
+//! - A call tests all its arguments, in the order of the refusal numbers. Only [`read_text`] has another order: it tests
+//!   refusals 2, 6 and 3.
+//! - A call borrows the slices only while it runs. When it refuses, all slices are unchanged.
+//! - A call on a position `at` accepts any number. It returns `Ok(None)` if `at` is not below `bits`.
 //! - A call on an outline node returns [`NotAHandle`](crate::Refusal::NotAHandle) if the argument is not a handle.
-//! - The documented answers are those for a node buffer as built. With any other node buffer a call can return
-//!   [`NodesMisfit`](crate::Refusal::NodesMisfit) or a wrong answer. A wrong position is still a position of the row.
+//! - A call with an argument `level` returns `Ok(None)` if `level` is above `bits`.
 //!
-//! `E(k)` is the excess: open bits minus close bits among the first `k` bits.
+//! **The documented answers are those for a node buffer as built.** With any other node buffer a call can return a wrong
+//! answer instead of [`NodesMisfit`](crate::Refusal::NodesMisfit). A wrong position is still below `bits`. [`as_built`]
+//! tests a node buffer.
+//!
+//! The [crate documentation](crate) explains the terms and gives the size of the node buffer. `E(k)` is the excess: open bits
+//! minus close bits among the first `k` bits. SCOPE, The calls (`docs/SCOPE.md`), has the exact definition of every call.
 //!
 //! ```
 //! use vault::words;

@@ -11,21 +11,12 @@ use borrow.Author.Needs.{needs}
 use Rattle.app_line.proofs.read_line.Statement.{statement}
 use Rattle.app_line.proofs.read_line.Tie as tie
 
-line-end-requires : tie.Need-line-end-requires
-line-end-requires c κs = search needs
-
 returns : tie.Need-returns
 returns c =
     let e = c .before .line-end .ensures .1 in
     let s = c .before .before .before .args .bytes .now in
     let h : maxShortBits < lineEnd s = rw (← e) (c .if1 .taken) in
-    (line-many s h, words-many s (c .before .before .before .args .words .now) h)
-
-slice-aggregate-read-text : tie.Need-slice-aggregate-read-text
-slice-aggregate-read-text c = search needs
-
-read-text-requires : tie.Need-read-text-requires
-read-text-requires c κs = search needs
+    record { answer = line-many s h; slice = words-many s (c .before .before .before .args .words .now) h }
 
 returns-2 : tie.Need-returns-2
 returns-2 c =
@@ -36,9 +27,9 @@ returns-2 c =
     let h : lineEnd s ≤ maxShortBits = rw (← e) (c .before .before .before .if1 .left) in
     let l : length (line s) ≡ lineEnd s = cc (b .line-end .ensures .0 .1, e) in
     let w : length ws ≡ 64 = omega arith in
-    (rw e at (c .read-text .ensures .0) ∙ line-read s ws h l w, rw e at (c .read-text .ensures .1) ∙ words-read s ws h)
+    record { answer = rw e at (c .read-text .ensures .answer) ∙ line-read s ws h l w; slice = rw e at (c .read-text .ensures .slice) ∙ words-read s ws h }
 
 pub read-line-spec : {M : Type 1} → statement M
 read-line-spec =
     tie.close
-    (tie.spec line-end-requires returns slice-aggregate-read-text read-text-requires returns-2)
+    (tie.spec (λ c κs. search needs) returns (λ c. search needs) (λ c κs. search needs) returns-2)

@@ -9,22 +9,10 @@ use borrow.Author.Needs.{needs}
 use Rattle.app_line.proofs.read_tree.Statement.{statement}
 use Rattle.app_line.proofs.read_tree.Tie as tie
 
-read-line-requires : tie.Need-read-line-requires
-read-line-requires c κs = search needs
-
-enum-known-k : tie.Need-enum-known-k
-enum-known-k c = search needs
-
-enum-known-n : tie.Need-enum-known-n
-enum-known-n c = search needs
-
-admit-tree-requires : tie.Need-admit-tree-requires
-admit-tree-requires c κs = search needs
-
 returns : tie.Need-returns
 returns c =
     let b = c .before .before .before in
-    (input-refused _ _ _ (sym (ap paperRead (c .before .k .given .1)) ∙ b .read-line .ensures .0), b .read-line .ensures .1)
+    record { answer = input-refused _ _ _ (sym (ap paperRead (c .before .k .given .1)) ∙ b .read-line .ensures .answer); slice = b .read-line .ensures .slice }
 
 returns-2 : tie.Need-returns-2
 returns-2 c =
@@ -33,11 +21,11 @@ returns-2 c =
     let a = b .before .before .before .args in
     let s = a .bytes .now in
     let ws = a .words .now in
-    let e = b .read-line .ensures .1 in
-    let w : 64 ≡ length (lineWords s ws) = rw e at (c .admit-tree .ensures .1) in
-    (rw e at (c .admit-tree .ensures .0) ∙ input-tree s ws _ w (sym (ap paperRead (n .n .given .1)) ∙ b .read-line .ensures .0), e)
+    let e = b .read-line .ensures .slice in
+    let w : 64 ≡ length (lineWords s ws) = rw e at (c .admit-tree .ensures .words) in
+    record { answer = rw e at (c .admit-tree .ensures .answer) ∙ input-tree s ws _ w (sym (ap paperRead (n .n .given .1)) ∙ b .read-line .ensures .answer); slice = e }
 
 pub read-tree-spec : {M : Type 1} → statement M
 read-tree-spec =
     tie.close
-    (tie.spec read-line-requires enum-known-k enum-known-n admit-tree-requires returns returns-2)
+    (tie.spec (λ c κs. search needs) (λ c. search needs) (λ c. search needs) (λ c κs. search needs) returns returns-2)

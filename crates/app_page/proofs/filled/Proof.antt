@@ -1,4 +1,4 @@
--- `app_page::filled` returns `at`, or the length of the page if that is smaller. Either number is at most the length. Assumes nothing.
+-- `app_page::filled` returns `at`, or the length of the page if that is smaller. So the result is at most the length. Assumes nothing.
 use Rattle.io.proofs.Counting.{counts}
 use native.Mathlib.Omega.{arith}
 use Rattle.app_page.proofs.filled.Statement.{statement}

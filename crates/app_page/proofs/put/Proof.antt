@@ -4,15 +4,6 @@ use borrow.Author.Needs.{needs}
 use Rattle.app_page.proofs.put.Statement.{statement}
 use Rattle.app_page.proofs.put.Tie as tie
 
-slice-write-page : tie.Need-slice-write-page
-slice-write-page c = search needs
-
-add-result : tie.Need-add-result
-add-result c = search needs
-
-same-length : tie.Need-same-length
-same-length c = search needs
-
 returns : tie.Need-returns
 returns c = adds-one (c .before .args .page .now) (c .before .args .at) _ (c .if1 .taken)
 
@@ -20,4 +11,4 @@ returns-2 : tie.Need-returns-2
 returns-2 c = adds-none _ _ _ (c .if1 .left)
 
 pub put-spec : {M : Type 1} → statement M
-put-spec = tie.close (tie.spec slice-write-page add-result same-length returns returns-2)
+put-spec = tie.close (tie.spec (λ c. search needs) (λ c. search needs) (λ c. search needs) returns returns-2)

@@ -1,4 +1,5 @@
--- `edge::edge_fwd` meets its contract: bits of one word are bits of the row. Assumes nothing.
+-- `bits_edge::edge_fwd` scans bits of a row that lie in one word, forward. It scans the bits of the word and moves the hit to its
+-- position in the row. Assumes nothing.
 use mathlib.Core.Path.{_≡_}
 use Prim.Native.Nat.{_-_, _*_, _/_}
 use native.Mathlib.Omega.{arith}
@@ -18,36 +19,12 @@ use Rattle.bits_edge.proofs.edge_fwd.Tie as tie
 returns : tie.Need-returns
 returns c = rw (toZ-ofZ w64 _ (c .before .before .fits .r)) (scan-end _ _ _ _ _ (omega arith))
 
-mul-bits-fwd : tie.Need-mul-bits-fwd
-mul-bits-fwd c = search needs
-
-shared-slice-read-bits-fwd : tie.Need-shared-slice-read-bits-fwd
-shared-slice-read-bits-fwd c = search needs
-
-mul-bits-fwd-2 : tie.Need-mul-bits-fwd-2
-mul-bits-fwd-2 c = search needs
-
-sub-bits-fwd : tie.Need-sub-bits-fwd
-sub-bits-fwd c = search needs
-
-bits-fwd-requires : tie.Need-bits-fwd-requires
-bits-fwd-requires c κs = search needs
-
-enum-known-j : tie.Need-enum-known-j
-enum-known-j c = search needs
-
-mul-t17 : tie.Need-mul-t17
-mul-t17 c = search needs
-
-enum-known-q : tie.Need-enum-known-q
-enum-known-q c = search needs
-
--- what the word's bits answer is what the row's do
+-- The result of the scan of the word, with its hit moved, is the result of the scan of the row.
 read : (c : tie.After-bits-fwd) → (let s = c .before .before .before .before .args in
     moved (64 * (s .from / 64)) (c .bits-fwd .result) ≡ scan forward (bitAt (s .words .now)) (s .to - s .from) (s .from) (s .r))
 read c =
     let s = c .before .before .before .before in
-    rw (toZ-ofZ w64 _ (s .fits .r)) at (word-scan forward (s .args .words .now) _ (edge-lies (s .pre .0)) (c .bits-fwd .ensures))
+    rw (toZ-ofZ w64 _ (s .fits .r)) at (word-scan forward (s .args .words .now) _ (edge-lies (s .pre .bits)) (c .bits-fwd .ensures))
 
 returns-2 : tie.Need-returns-2
 returns-2 c = rw (c .before .j .given .1) at (read (c .before .before .before))
@@ -65,14 +42,14 @@ edge-fwd-spec =
     tie.close
     (tie.spec
     returns
-    mul-bits-fwd
-    shared-slice-read-bits-fwd
-    mul-bits-fwd-2
-    sub-bits-fwd
-    bits-fwd-requires
-    enum-known-j
-    mul-t17
+    (λ c. search needs)
+    (λ c. search needs)
+    (λ c. search needs)
+    (λ c. search needs)
+    (λ c κs. search needs)
+    (λ c. search needs)
+    (λ c. search needs)
     add-t18
-    enum-known-q
+    (λ c. search needs)
     returns-2
     returns-3)

@@ -1,5 +1,5 @@
--- `measure::bytes_summary` meets its contract. The loop's invariant: x has the numbers of the bytes from `from` to k.
--- The measure is how many bytes are left. Assumes nothing.
+-- `bits_measure::bytes_summary` returns the summary of at least one byte of a row. Loop invariant: x is the summary of bytes `from` to
+-- k - 1. Measure: the number of bytes left. Assumes nothing.
 use mathlib.Core.Path.{_≡_, ap, _∙_}
 use Prim.Native.Nat.{ℕ, _-_, _*_, _≤_, _<_}
 use borrow.Author.Needs.{needs}
@@ -17,40 +17,19 @@ Inv-loop t words from to x₀ k₀ x k = (x ≡ summaryOf (bitAt words) (8 * fro
 abbrev μ-loop : tie.MeasureT-loop
 μ-loop t words from to x₀ k₀ x k = to - k
 
--- the entry, from where the first byte is measured
+-- The entry of the function, seen from the point where the summary of the first byte is computed.
 abbrev entry : tie.After-byte-summary Inv-loop μ-loop → tie.Start Inv-loop μ-loop
 entry c = c .before .before .before
-
-byte-requires : tie.Need-byte-requires Inv-loop μ-loop
-byte-requires c κs = search needs
-
-byte-summary-requires : tie.Need-byte-summary-requires Inv-loop μ-loop
-byte-summary-requires c κs = search needs
-
-add-k : tie.Need-add-k Inv-loop μ-loop
-add-k c = search needs
 
 loop-holds : tie.Need-loop-holds Inv-loop μ-loop
 loop-holds c =
     let s = entry c .args in
     (c .byte-summary .ensures ∙ ap (λ (b : ℕ). summaryOf (digit b) 0 8) (c .before .byte .ensures) ∙ bytes-first (s .words .now) (s .from), omega arith, omega arith)
 
-byte-requires-2 : tie.Need-byte-requires-2 Inv-loop μ-loop
-byte-requires-2 c κs = search needs
-
-byte-summary-requires-2 : tie.Need-byte-summary-requires-2 Inv-loop μ-loop
-byte-summary-requires-2 c κs = search needs
-
 join-requires : tie.Need-join-requires Inv-loop μ-loop
 join-requires c κs =
     let l = c .before .before .before .loop in
-    (rw (l .inv .0) (summary-tame _ _ _ (omega arith)), rw (c .byte-summary2 .ensures) (summary-tame _ _ _ (omega arith)))
-
-add-k-2 : tie.Need-add-k-2 Inv-loop μ-loop
-add-k-2 c = search needs
-
-loop-less : tie.Need-loop-less Inv-loop μ-loop
-loop-less c = search needs
+    record { left = rw (l .inv .0) (summary-tame _ _ _ (omega arith)); right = rw (c .byte-summary2 .ensures) (summary-tame _ _ _ (omega arith)) }
 
 loop-again : tie.Need-loop-again Inv-loop μ-loop
 loop-again c =
@@ -68,14 +47,14 @@ bytes-summary-spec =
     (tie.spec
     Inv-loop
     μ-loop
-    byte-requires
-    byte-summary-requires
-    add-k
+    (λ c κs. search needs)
+    (λ c κs. search needs)
+    (λ c. search needs)
     loop-holds
-    byte-requires-2
-    byte-summary-requires-2
+    (λ c κs. search needs)
+    (λ c κs. search needs)
     join-requires
-    add-k-2
-    loop-less
+    (λ c. search needs)
+    (λ c. search needs)
     loop-again
     returns)

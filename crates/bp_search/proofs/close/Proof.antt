@@ -3,11 +3,8 @@ use borrow.Author.Needs.{needs}
 use Rattle.bp_search.proofs.close.Statement.{statement}
 use Rattle.bp_search.proofs.close.Tie as tie
 
-fwd-search-requires : tie.Need-fwd-search-requires
-fwd-search-requires c κs = search needs
-
 returns : tie.Need-returns
 returns c = c .fwd-search .ensures
 
 pub close-spec : {M : Type 1} → statement M
-close-spec = tie.close (tie.spec fwd-search-requires returns)
+close-spec = tie.close (tie.spec (λ c κs. search needs) returns)

@@ -7,12 +7,6 @@ use Rattle.bp_spec.proofs.SearchAnswers.{outward-fits}
 use Rattle.bp_search.proofs.enclose.Statement.{statement}
 use Rattle.bp_search.proofs.enclose.Tie as tie
 
-out-of-requires : tie.Need-out-of-requires
-out-of-requires c κs = search needs
-
-bwd-search-requires : tie.Need-bwd-search-requires
-bwd-search-requires c κs = search needs
-
 returns : tie.Need-returns
 returns c =
     let a = c .before .before .before .args in
@@ -20,4 +14,4 @@ returns c =
     rw (c .before .out-of .ensures, toZ-ofZ w64 _ f) at (c .bwd-search .ensures)
 
 pub enclose-spec : {M : Type 1} → statement M
-enclose-spec = tie.close (tie.spec out-of-requires bwd-search-requires returns)
+enclose-spec = tie.close (tie.spec (λ c κs. search needs) (λ c κs. search needs) returns)

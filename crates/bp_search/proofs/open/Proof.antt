@@ -3,11 +3,8 @@ use borrow.Author.Needs.{needs}
 use Rattle.bp_search.proofs.open.Statement.{statement}
 use Rattle.bp_search.proofs.open.Tie as tie
 
-bwd-search-requires : tie.Need-bwd-search-requires
-bwd-search-requires c κs = search needs
-
 returns : tie.Need-returns
 returns c = c .bwd-search .ensures
 
 pub open-spec : {M : Type 1} → statement M
-open-spec = tie.close (tie.spec bwd-search-requires returns)
+open-spec = tie.close (tie.spec (λ c κs. search needs) returns)

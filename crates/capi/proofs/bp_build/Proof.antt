@@ -13,7 +13,7 @@ use Rattle.mmt_layout.specs.Layout.{nodesGate}
 use Rattle.wire.specs.Answer.{wireOf}
 use Rattle.wire.specs.Bytes.{wordAt, numberAt, wordsIn}
 use Rattle.capi.specs.Build.{leftBytes}
-use Rattle.wire.proofs.Decoded.{lent, lent-few, same}
+use Rattle.wire.proofs.Decoded.{decoded-length, decoded-few, same}
 use borrow.Author.Needs.{needs}
 use Rattle.capi.proofs.bp_build.Statement.{statement}
 use Rattle.capi.proofs.bp_build.Tie as tie
@@ -25,28 +25,10 @@ words c = c .before .before
 abbrev entry : tie.After-take-words → tie.Start
 entry c = c .before .before .before .before
 
-slice-aggregate-take-words : tie.Need-slice-aggregate-take-words
-slice-aggregate-take-words c = search needs
-
-take-words-requires : tie.Need-take-words-requires
-take-words-requires c κs = search needs
-
-fitting-requires : tie.Need-fitting-requires
-fitting-requires c κs = search needs
-
-array-share-prefix-words : tie.Need-array-share-prefix-words
-array-share-prefix-words c = search needs
-
 slice-aggregate-build : tie.Need-slice-aggregate-build
 slice-aggregate-build c =
     let t = words (c .before) in
-    lent (λ j. wordAt (entry t .args .row .now) (8 * j)) _ _ (t .take-words .ensures .1)
-
-bits-requires : tie.Need-bits-requires
-bits-requires c κs = search needs
-
-array-borrow-prefix-numbers : tie.Need-array-borrow-prefix-numbers
-array-borrow-prefix-numbers c = search needs
+    decoded-length (λ j. wordAt (entry t .args .row .now) (8 * j)) _ _ (t .take-words .ensures .slice)
 
 slice-aggregate-build-2 : tie.Need-slice-aggregate-build-2
 slice-aggregate-build-2 c =
@@ -61,9 +43,6 @@ build-requires c κs =
     let e : 8 * m .result ≤ length (entry (words f) .args .nodes .now) = omega (arith, m .ensures) in
     rw (length-take-le _ _ h) e
 
-same-length : tie.Need-same-length
-same-length c = search needs
-
 returns : tie.Need-returns
 returns c =
     -- The states of the code after the build, after the bit count and after the room, in reverse order.
@@ -75,26 +54,27 @@ returns c =
     let m = f .fitting in
     let h : m .result ≤ 3069 = omega (arith, m .ensures) in
     let e = b .build .ensures in
-    let p = w .1 ∙ ap (wordsIn (a .row .now)) (w .0) in
+    let p = w .slice ∙ ap (wordsIn (a .row .now)) (w .answer) in
     let q = n .bits .ensures in
-    let r = lent-few _ (m .result) _ (λ j. numberAt (a .nodes .now) (8 * j)) h (m .ensures) in (
-      toZ-ofZ w64 _ (record { sfits = b .build .ok }) ∙ e .0
-          ∙ same (λ ws n t. wireOf (through (nodesGate (length ws) n t (a .block)) (at 0))) p q r,
-      e .1 ∙ same (λ ws n t. leftBytes ws n t (a .block) (a .nodes .now)) p q r,
-    )
+    let r = decoded-few _ (m .result) _ (λ j. numberAt (a .nodes .now) (8 * j)) h (m .ensures) in
+    record {
+      answer = toZ-ofZ w64 _ (record { sfits = b .build .ok }) ∙ e .answer
+          ∙ same (λ ws n t. wireOf (through (nodesGate (length ws) n t (a .block)) (at 0))) p q r;
+      slice = e .slice ∙ same (λ ws n t. leftBytes ws n t (a .block) (a .nodes .now)) p q r;
+    }
 
 pub bp-build-spec : {M : Type 1} → statement M
 bp-build-spec =
     tie.close
     (tie.spec
-    slice-aggregate-take-words
-    take-words-requires
-    fitting-requires
-    array-share-prefix-words
+    (λ c. search needs)
+    (λ c κs. search needs)
+    (λ c κs. search needs)
+    (λ c. search needs)
     slice-aggregate-build
-    bits-requires
-    array-borrow-prefix-numbers
+    (λ c κs. search needs)
+    (λ c. search needs)
     slice-aggregate-build-2
     build-requires
-    same-length
+    (λ c. search needs)
     returns)

@@ -6,11 +6,8 @@ use borrow.Author.Needs.{needs}
 use Rattle.capi.proofs.bp_close.Statement.{statement}
 use Rattle.capi.proofs.bp_close.Tie as tie
 
-over-bytes-requires : tie.Need-over-bytes-requires
-over-bytes-requires c κs = search needs
-
 returns : tie.Need-returns
 returns c = toZ-ofZ w64 _ (record { sfits = c .over-bytes .ok }) ∙ c .over-bytes .ensures
 
 pub bp-close-spec : {M : Type 1} → statement M
-bp-close-spec = tie.close (tie.spec over-bytes-requires returns)
+bp-close-spec = tie.close (tie.spec (λ c κs. search needs) returns)

@@ -6,11 +6,8 @@ use borrow.Author.Needs.{needs}
 use Rattle.capi.proofs.bp_enclose.Statement.{statement}
 use Rattle.capi.proofs.bp_enclose.Tie as tie
 
-over-bytes-requires : tie.Need-over-bytes-requires
-over-bytes-requires c κs = search needs
-
 returns : tie.Need-returns
 returns c = toZ-ofZ w64 _ (record { sfits = c .over-bytes .ok }) ∙ c .over-bytes .ensures
 
 pub bp-enclose-spec : {M : Type 1} → statement M
-bp-enclose-spec = tie.close (tie.spec over-bytes-requires returns)
+bp-enclose-spec = tie.close (tie.spec (λ c κs. search needs) returns)

@@ -1,4 +1,4 @@
--- `mmt_layout::admit` makes test 1, then tests 2 and 3 by `row::admit_row`, then test 4. Each return is that of the test that decides.
+-- `mmt_layout::admit` makes test 1, then tests 2 and 3 by `row::admit_row`, then test 4. Each return has the result of the test that decides.
 -- Assumes nothing.
 use mathlib.Core.Path.{_≡_, sym, _∙_}
 use borrow.Author.Needs.{needs}
@@ -10,34 +10,17 @@ use Rattle.mmt_layout.proofs.Admitted.{block-fits, gate-block, gate-row
 use Rattle.mmt_layout.proofs.admit.Statement.{statement}
 use Rattle.mmt_layout.proofs.admit.Tie as tie
 
--- the start of the function, reached back from the point where test 1 has passed
+-- from the state after test 1 has passed back to the start of the function
 abbrev entry : tie.After-enum-told → tie.Start
 entry c = c .before .before .before
 
--- test 1 has passed; `worded` below: tests 2 and 3 have passed too
+-- test 1 has passed
 sized : (c : tie.After-enum-told) → blockGate (entry c .args .block) ≡ Pass
 sized c = sym (c .before .before .admit-block .ensures) ∙ c .enum-told .given .1
 
+-- tests 2 and 3 have passed
 worded : (c : tie.After-enum-told2) → let a = entry (c .before .before .before) .args in rowGate (a .words) (a .n) ≡ Pass
 worded c = sym (c .before .before .admit-row .ensures) ∙ c .enum-told2 .given .1
-
-admit-block-requires : tie.Need-admit-block-requires
-admit-block-requires c κs = search needs
-
-enum-known-k : tie.Need-enum-known-k
-enum-known-k c = search needs
-
-enum-told : tie.Need-enum-told
-enum-told c = search needs
-
-admit-row-requires : tie.Need-admit-row-requires
-admit-row-requires c κs = search needs
-
-enum-known-k-2 : tie.Need-enum-known-k-2
-enum-known-k-2 c = search needs
-
-enum-told-2 : tie.Need-enum-told-2
-enum-told-2 c = search needs
 
 admit-room-requires : tie.Need-admit-room-requires
 admit-room-requires c κs =
@@ -58,12 +41,12 @@ pub admit-spec : {M : Type 1} → statement M
 admit-spec =
     tie.close
     (tie.spec
-    admit-block-requires
-    enum-known-k
-    enum-told
-    admit-row-requires
-    enum-known-k-2
-    enum-told-2
+    (λ c κs. search needs)
+    (λ c. search needs)
+    (λ c. search needs)
+    (λ c κs. search needs)
+    (λ c. search needs)
+    (λ c. search needs)
     admit-room-requires
     returns
     returns-2

@@ -13,11 +13,9 @@ use Rattle.mmt_layout.proofs.admit_room.Tie as tie
 all : (c : tie.After-layout-of) → c .layout-of .result .leaves + c .layout-of .result .inner ≡ count (c .before .args .n) (c .before .args .block)
 all c = ap (λ (l : Layout). l .leaves + l .inner) (c .layout-of .ensures)
 
-layout-of-requires : tie.Need-layout-of-requires
-layout-of-requires c κs = search needs
-
 add-if1 : tie.Need-add-if1
-add-if1 c = let s = c .before .before in rw (c .before .layout-of .ensures) (omega (arith, count-small (s .args .n) (s .args .block) (omega arith) (omega arith)))
+add-if1 c =
+    let s = c .before .before in rw (c .before .layout-of .ensures) (omega (arith, count-small (s .args .n) (s .args .block) (omega arith) (omega arith)))
 
 returns : tie.Need-returns
 returns c = let e = all (c .before .before) in let s = c .before .before .before .args in room-few (s .n) (s .nodes) (s .block) (omega arith)
@@ -26,4 +24,4 @@ returns-2 : tie.Need-returns-2
 returns-2 c = let e = all (c .before .before) in let s = c .before .before .before .args in room-passed (s .n) (s .nodes) (s .block) (omega arith)
 
 pub admit-room-spec : {M : Type 1} → statement M
-admit-room-spec = tie.close (tie.spec layout-of-requires add-if1 returns returns-2)
+admit-room-spec = tie.close (tie.spec (λ c κs. search needs) add-if1 returns returns-2)

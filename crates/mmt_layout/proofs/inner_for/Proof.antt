@@ -20,9 +20,6 @@ some (suc m) a h k = omega arith
 returns : tie.Need-returns
 returns c = inner-one _ (c .if1 .taken)
 
-sub-result : tie.Need-sub-result
-sub-result c = search needs
-
 cast-result : tie.Need-cast-result
 cast-result c = let d = digits c in omega arith
 
@@ -38,4 +35,4 @@ returns-2 c =
     ap (λ (k : ℕ). (2 ^ k - 1) / 2 ^ z) e ∙ shifted (d .0) z ∙ inner-many l (d .0) (omega arith) (omega arith) (omega arith)
 
 pub inner-for-spec : {M : Type 1} → statement M
-inner-for-spec = tie.close (tie.spec returns sub-result cast-result shr-result returns-2)
+inner-for-spec = tie.close (tie.spec returns (λ c. search needs) cast-result shr-result returns-2)

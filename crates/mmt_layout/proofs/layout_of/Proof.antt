@@ -11,15 +11,6 @@ use Rattle.mmt_layout.proofs.layout_of.Tie as tie
 returns : tie.Need-returns
 returns c = layout-none _ _ (c .if1 .taken)
 
-sub-l : tie.Need-sub-l
-sub-l c = search needs
-
-add-l : tie.Need-add-l
-add-l c = search needs
-
-div-l : tie.Need-div-l
-div-l c = search needs
-
 inner-for-requires : tie.Need-inner-for-requires
 unfolding leaves
 inner-for-requires c κs = let s = c .before in leaves-small (s .args .n) (s .args .block) (omega arith) (omega arith)
@@ -32,4 +23,4 @@ returns-2 c =
     (λ i. record { leaves = leaves n B; inner = c .inner-for .ensures i }) ∙ layout-some n B (c .before .if1 .left)
 
 pub layout-of-spec : {M : Type 1} → statement M
-layout-of-spec = tie.close (tie.spec returns sub-l add-l div-l inner-for-requires returns-2)
+layout-of-spec = tie.close (tie.spec returns (λ c. search needs) (λ c. search needs) (λ c. search needs) inner-for-requires returns-2)

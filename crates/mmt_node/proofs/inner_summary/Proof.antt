@@ -9,34 +9,17 @@ use Rattle.mmt_node.proofs.Nodes.{inner-both, inner-left, inner-none}
 use Rattle.mmt_node.proofs.inner_summary.Statement.{statement}
 use Rattle.mmt_node.proofs.inner_summary.Tie as tie
 
-mul-left : tie.Need-mul-left
-mul-left c = search needs
-
-add-left : tie.Need-add-left
-add-left c = search needs
-
-mul-right : tie.Need-mul-right
-mul-right c = search needs
-
-add-right : tie.Need-add-right
-add-right c = search needs
-
-node-at-requires : tie.Need-node-at-requires
-node-at-requires c κs = search needs
-
-node-at-requires-2 : tie.Need-node-at-requires-2
-node-at-requires-2 c κs = search needs
-
 join-requires : tie.Need-join-requires
 join-requires c κs =
     let s = c .before .before .before in
-    (rw (c .before .node-at .ensures) (s .pre .1 _ (omega arith) (omega arith)), rw (c .node-at2 .ensures) (s .pre .1 _ (omega arith) (omega arith)))
+    record {
+      left = rw (c .before .node-at .ensures) (s .pre .tame _ (omega arith) (omega arith));
+      right = rw (c .node-at2 .ensures) (s .pre .tame _ (omega arith) (omega arith));
+    }
 
 returns : tie.Need-returns
-returns c = c .join .ensures ∙ ap₂ joinOf (c .before .before .node-at .ensures) (c .before .node-at2 .ensures) ∙ inner-both _ _ _ (c .before .before .before .if1 .taken)
-
-node-at-requires-3 : tie.Need-node-at-requires-3
-node-at-requires-3 c κs = search needs
+returns c =
+    c .join .ensures ∙ ap₂ joinOf (c .before .before .node-at .ensures) (c .before .node-at2 .ensures) ∙ inner-both _ _ _ (c .before .before .before .if1 .taken)
 
 returns-2 : tie.Need-returns-2
 returns-2 c =
@@ -51,14 +34,14 @@ pub inner-summary-spec : {M : Type 1} → statement M
 inner-summary-spec =
     tie.close
     (tie.spec
-    mul-left
-    add-left
-    mul-right
-    add-right
-    node-at-requires
-    node-at-requires-2
+    (λ c. search needs)
+    (λ c. search needs)
+    (λ c. search needs)
+    (λ c. search needs)
+    (λ c κs. search needs)
+    (λ c κs. search needs)
     join-requires
     returns
-    node-at-requires-3
+    (λ c κs. search needs)
     returns-2
     returns-3)

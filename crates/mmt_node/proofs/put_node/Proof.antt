@@ -8,35 +8,11 @@ use borrow.Author.Needs.{needs}
 use Rattle.mmt_node.proofs.put_node.Statement.{statement}
 use Rattle.mmt_node.proofs.put_node.Tie as tie
 
-mul-at : tie.Need-mul-at
-mul-at c = search needs
-
-mul-total : tie.Need-mul-total
-mul-total c = search needs
-
-slice-set-from-total : tie.Need-slice-set-from-total
-slice-set-from-total c = search needs
-
-add-least : tie.Need-add-least
-add-least c = search needs
-
-mul-least : tie.Need-mul-least
-mul-least c = search needs
-
 slice-set-from-least : tie.Need-slice-set-from-least
 slice-set-from-least c = simp length-set (omega arith)
 
-add-greatest : tie.Need-add-greatest
-add-greatest c = search needs
-
-mul-greatest : tie.Need-mul-greatest
-mul-greatest c = search needs
-
 slice-set-from-greatest : tie.Need-slice-set-from-greatest
 slice-set-from-greatest c = simp length-set (omega arith)
-
-same-length : tie.Need-same-length
-same-length c = search needs
 
 returns : tie.Need-returns
 returns c =
@@ -50,14 +26,14 @@ pub put-node-spec : {M : Type 1} → statement M
 put-node-spec =
     tie.close
     (tie.spec
-    mul-at
-    mul-total
-    slice-set-from-total
-    add-least
-    mul-least
+    (λ c. search needs)
+    (λ c. search needs)
+    (λ c. search needs)
+    (λ c. search needs)
+    (λ c. search needs)
     slice-set-from-least
-    add-greatest
-    mul-greatest
+    (λ c. search needs)
+    (λ c. search needs)
     slice-set-from-greatest
-    same-length
+    (λ c. search needs)
     returns)

@@ -1,4 +1,5 @@
--- `tree::is_body` meets its contract: the second test where the first holds, and the first where it does not. Assumes nothing.
+-- `one_tree::is_body` tests whether least > 0 and total = 1. If the first comparison fails, the result is no; otherwise the second one
+-- decides. Assumes nothing.
 use native.Mathlib.Omega.{arith}
 use lib.IntN.{pos}
 use mir.Syntax.{w64}
@@ -8,7 +9,7 @@ use Rattle.ints.proofs.Order.{bits-eqZ}
 use Rattle.one_tree.proofs.is_body.Statement.{statement}
 use Rattle.one_tree.proofs.is_body.Tie as tie
 
--- the entry, from the first test
+-- The entry of the function, seen from the first comparison.
 abbrev entry : tie.After-struct-told → tie.Start
 entry c = c .before .before
 

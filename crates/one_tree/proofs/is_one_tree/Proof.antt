@@ -1,4 +1,4 @@
--- `tree::is_one_tree` meets its contract: each return by the test that led there. Assumes nothing.
+-- `one_tree::is_one_tree` tests whether a row is one tree. Each return follows from the test before it. Assumes nothing.
 use mathlib.Core.Path.{sym, ap, _∙_}
 use mathlib.Core.Bool.{_&&_}
 use lib.IntN.{pos}
@@ -14,20 +14,8 @@ use Rattle.one_tree.proofs.is_one_tree.Tie as tie
 returns : tie.Need-returns
 returns c = few-no _ _ (c .if1 .taken)
 
-sub-opens-at : tie.Need-sub-opens-at
-sub-opens-at c = search needs
-
-opens-at-requires : tie.Need-opens-at-requires
-opens-at-requires c κs = search needs
-
 returns-2 : tie.Need-returns-2
 returns-2 c = opens-no _ _ (omega arith) (sym (c .before .opens-at .ensures) ∙ c .if2 .taken)
-
-body-summary-requires : tie.Need-body-summary-requires
-body-summary-requires c κs = search needs
-
-is-body-requires : tie.Need-is-body-requires
-is-body-requires c κs = search needs
 
 returns-3 : tie.Need-returns-3
 returns-3 c =
@@ -39,4 +27,12 @@ returns-3 c =
 
 pub is-one-tree-spec : {M : Type 1} → statement M
 is-one-tree-spec =
-    tie.close (tie.spec returns sub-opens-at opens-at-requires returns-2 body-summary-requires is-body-requires returns-3)
+    tie.close
+    (tie.spec
+    returns
+    (λ c. search needs)
+    (λ c κs. search needs)
+    returns-2
+    (λ c κs. search needs)
+    (λ c κs. search needs)
+    returns-3)

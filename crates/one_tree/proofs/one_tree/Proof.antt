@@ -1,4 +1,4 @@
--- `tree::one_tree` meets its contract: refused, yes or no, each by what led there. Assumes nothing.
+-- `one_tree::one_tree` answers whether a row is one tree. The proof has one case for a refusal, one for yes and one for no. Assumes nothing.
 use mathlib.Core.Path.{_≡_, sym, _∙_}
 use borrow.Author.Needs.{needs}
 use lib.ListN.{length}
@@ -9,18 +9,9 @@ use Rattle.one_tree.proofs.Decided.{when-refused, when-tree, when-not}
 use Rattle.one_tree.proofs.one_tree.Statement.{statement}
 use Rattle.one_tree.proofs.one_tree.Tie as tie
 
--- in the arm that tests the tree, the row is not refused
+-- In the arm that tests the row, the gate has passed.
 passed : (c : tie.After-enum-told) → let a = c .before .before .before .before .args in rowGate (length (a .words .now)) (a .n) ≡ Pass
 passed c = sym (c .before .before .admit-row .ensures) ∙ c .enum-told .given .1
-
-admit-row-requires : tie.Need-admit-row-requires
-admit-row-requires c κs = search needs
-
-enum-known-k : tie.Need-enum-known-k
-enum-known-k c = search needs
-
-enum-told : tie.Need-enum-told
-enum-told c = search needs
 
 is-one-tree-requires : tie.Need-is-one-tree-requires
 is-one-tree-requires c κs = row-fits _ _ (passed c)
@@ -35,4 +26,13 @@ returns-3 : tie.Need-returns-3
 returns-3 c = when-not _ _ (passed (c .before .before)) (sym (c .before .is-one-tree .ensures) ∙ c .if1 .left)
 
 pub one-tree-spec : {M : Type 1} → statement M
-one-tree-spec = tie.close (tie.spec admit-row-requires enum-known-k enum-told is-one-tree-requires returns returns-2 returns-3)
+one-tree-spec =
+    tie.close
+    (tie.spec
+    (λ c κs. search needs)
+    (λ c. search needs)
+    (λ c. search needs)
+    is-one-tree-requires
+    returns
+    returns-2
+    returns-3)

@@ -1,4 +1,5 @@
--- `replay::numbers` is safe and ends: no more answers are printed than are there, and their number left falls. Assumes nothing.
+-- `test_replay::numbers` prints the first answers of a listing. Invariant of the loop: `end` is at most the length of `out`. Measure: the
+-- answers left. Assumes nothing.
 use Prim.Native.Nat.{_-_, _≤_}
 use lib.ListN.{length}
 use borrow.Author.Needs.{needs}
@@ -12,32 +13,11 @@ Inv-loop out count end i₀ i = end ≤ length out
 abbrev μ-loop : tie.MeasureT-loop
 μ-loop out count end i₀ i = end - i
 
-earlier-requires : tie.Need-earlier-requires Inv-loop μ-loop
-earlier-requires c κs = search needs
-
 loop-holds : tie.Need-loop-holds Inv-loop μ-loop
 loop-holds c = omega (arith, c .earlier .ensures)
 
-mul-number : tie.Need-mul-number Inv-loop μ-loop
-mul-number c = search needs
-
-shared-slice-copy-out-number : tie.Need-shared-slice-copy-out-number Inv-loop μ-loop
-shared-slice-copy-out-number c = search needs
-
-number-requires : tie.Need-number-requires Inv-loop μ-loop
-number-requires c κs = search needs
-
-add-i : tie.Need-add-i Inv-loop μ-loop
-add-i c = search needs
-
 loop-less : tie.Need-loop-less Inv-loop μ-loop
 loop-less c = omega arith
-
-loop-again : tie.Need-loop-again Inv-loop μ-loop
-loop-again c = search needs
-
-returns : tie.Need-returns Inv-loop μ-loop
-returns c = search needs
 
 pub numbers-spec : {M : Type 1} → statement M
 numbers-spec =
@@ -45,12 +25,12 @@ numbers-spec =
     (tie.spec
     Inv-loop
     μ-loop
-    earlier-requires
+    (λ c κs. search needs)
     loop-holds
-    mul-number
-    shared-slice-copy-out-number
-    number-requires
-    add-i
+    (λ c. search needs)
+    (λ c. search needs)
+    (λ c κs. search needs)
+    (λ c. search needs)
     loop-less
-    loop-again
-    returns)
+    (λ c. search needs)
+    (λ c. search needs))

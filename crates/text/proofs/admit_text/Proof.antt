@@ -9,16 +9,10 @@ use Rattle.text.proofs.admit_text.Tie as tie
 returns : tie.Need-returns
 returns c = text-many (c .before .before .args .text .now) _ (c .if1 .taken)
 
-all-parentheses-requires : tie.Need-all-parentheses-requires
-all-parentheses-requires c κs = search needs
-
 returns-2 : tie.Need-returns-2
 returns-2 c =
     let b = c .before .before in
     text-other (b .before .before .args .text .now) _ (b .if1 .left) (sym (c .before .all-parentheses .ensures) ∙ not-true _ (c .if2 .taken))
-
-admit-row-requires : tie.Need-admit-row-requires
-admit-row-requires c κs = search needs
 
 returns-3 : tie.Need-returns-3
 returns-3 c =
@@ -28,4 +22,4 @@ returns-3 c =
 
 pub admit-text-spec : {M : Type 1} → statement M
 admit-text-spec =
-    tie.close (tie.spec returns all-parentheses-requires returns-2 admit-row-requires returns-3)
+    tie.close (tie.spec returns (λ c κs. search needs) returns-2 (λ c κs. search needs) returns-3)

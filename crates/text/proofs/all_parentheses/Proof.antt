@@ -17,26 +17,11 @@ Inv-loop text i₀ i = (i ≤ length text) × (allParentheses (drop i text) ≡ 
 abbrev μ-loop : tie.MeasureT-loop
 μ-loop text i₀ i = length text - i
 
-loop-holds : tie.Need-loop-holds Inv-loop μ-loop
-loop-holds c = search needs
-
-shared-slice-read-is-parenthesis : tie.Need-shared-slice-read-is-parenthesis Inv-loop μ-loop
-shared-slice-read-is-parenthesis c = search needs
-
-is-parenthesis-requires : tie.Need-is-parenthesis-requires Inv-loop μ-loop
-is-parenthesis-requires c κs = search needs
-
 returns : tie.Need-returns Inv-loop μ-loop
 returns c =
     let l = c .before .before .before .before in
     all-stop (l .before .before .args .text .now) (l .loop .i) (omega arith) (sym (c .before .is-parenthesis .ensures) ∙ not-true _ (c .if1 .taken))
     ∙ l .loop .inv .1
-
-add-i : tie.Need-add-i Inv-loop μ-loop
-add-i c = search needs
-
-loop-less : tie.Need-loop-less Inv-loop μ-loop
-loop-less c = search needs
 
 loop-again : tie.Need-loop-again Inv-loop μ-loop
 loop-again c =
@@ -55,11 +40,11 @@ all-parentheses-spec =
     (tie.spec
     Inv-loop
     μ-loop
-    loop-holds
-    shared-slice-read-is-parenthesis
-    is-parenthesis-requires
+    (λ c. search needs)
+    (λ c. search needs)
+    (λ c κs. search needs)
     returns
-    add-i
-    loop-less
+    (λ c. search needs)
+    (λ c. search needs)
     loop-again
     returns-2)

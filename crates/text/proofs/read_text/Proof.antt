@@ -19,20 +19,11 @@ gate c = let a = c .before .before .before .args in textGate (a .text .now) (len
 passed : (c : tie.After-enum-told) → gate (c .before .before) ≡ Pass
 passed c = sym (c .before .before .admit-text .ensures) ∙ c .enum-told .given .1
 
-admit-text-requires : tie.Need-admit-text-requires
-admit-text-requires c κs = search needs
-
-enum-known-k : tie.Need-enum-known-k
-enum-known-k c = search needs
-
 returns : tie.Need-returns
 returns c =
     let b = c .before .before .before in
     let g : gate b ≡ Refuse (c .before .k .given .0 .0) = sym (b .admit-text .ensures) ∙ c .before .k .given .1 in
-    (simp g, words-refused _ _ _ g)
-
-enum-told : tie.Need-enum-told
-enum-told c = search needs
+    record { answer = simp g; slice = words-refused _ _ _ g }
 
 words-for-requires : tie.Need-words-for-requires
 words-for-requires c κs = omega (arith, text-fits _ _ (passed (c .before)))
@@ -40,24 +31,21 @@ words-for-requires c κs = omega (arith, text-fits _ _ (passed (c .before)))
 write-words-requires : tie.Need-write-words-requires
 write-words-requires c κs = omega (arith, text-fits _ _ (passed (c .before .before)))
 
-same-length : tie.Need-same-length
-same-length c = search needs
-
 returns-2 : tie.Need-returns-2
 returns-2 c =
     let b = c .before .before .before in
     let g = passed (b .before .before) in
-    (simp g, rw (b .words-for .ensures) at (c .before .before .write-words .ensures) ∙ words-passed _ _ g)
+    record { answer = simp g; slice = rw (b .words-for .ensures) at (c .before .before .write-words .ensures) ∙ words-passed _ _ g }
 
 pub read-text-spec : {M : Type 1} → statement M
 read-text-spec =
     tie.close
     (tie.spec
-    admit-text-requires
-    enum-known-k
-    enum-told
+    (λ c κs. search needs)
+    (λ c. search needs)
+    (λ c. search needs)
     words-for-requires
     write-words-requires
     returns
-    same-length
+    (λ c. search needs)
     returns-2)

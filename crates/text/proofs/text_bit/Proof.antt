@@ -4,9 +4,6 @@ use Rattle.text.proofs.Text.{bit-open, bit-close, bit-past}
 use Rattle.text.proofs.text_bit.Statement.{statement}
 use Rattle.text.proofs.text_bit.Tie as tie
 
-shared-slice-read-if2 : tie.Need-shared-slice-read-if2
-shared-slice-read-if2 c = search needs
-
 returns : tie.Need-returns
 returns c = let a = c .before .before .before .args in bit-open (a .text .now) (a .i) (c .if2 .taken)
 
@@ -17,4 +14,4 @@ returns-3 : tie.Need-returns-3
 returns-3 c = let a = c .before .args in bit-past (a .text .now) (a .i) (c .if1 .left)
 
 pub text-bit-spec : {M : Type 1} → statement M
-text-bit-spec = tie.close (tie.spec shared-slice-read-if2 returns returns-2 returns-3)
+text-bit-spec = tie.close (tie.spec (λ c. search needs) returns returns-2 returns-3)

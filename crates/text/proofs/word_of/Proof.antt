@@ -28,18 +28,6 @@ loop-holds : tie.Need-loop-holds Inv-loop μ-loop
 unfolding packed
 loop-holds c = (search needs, refl)
 
-sub-j : tie.Need-sub-j Inv-loop μ-loop
-sub-j c = search needs
-
-mul-text-bit : tie.Need-mul-text-bit Inv-loop μ-loop
-mul-text-bit c = search needs
-
-add-text-bit : tie.Need-add-text-bit Inv-loop μ-loop
-add-text-bit c = search needs
-
-text-bit-requires : tie.Need-text-bit-requires Inv-loop μ-loop
-text-bit-requires c κs = search needs
-
 mul-w : tie.Need-mul-w Inv-loop μ-loop
 mul-w c = omega (arith, small (c .before))
 
@@ -47,9 +35,6 @@ add-w : tie.Need-add-w Inv-loop μ-loop
 add-w c =
     let a = c .before .before .before .before .args in
     omega (arith, small (c .before), bit-lt (a .text .now) (64 * a .k + (c .before .before .loop .j - 1)))
-
-loop-less : tie.Need-loop-less Inv-loop μ-loop
-loop-less c = search needs
 
 loop-again : tie.Need-loop-again Inv-loop μ-loop
 loop-again c =
@@ -70,12 +55,12 @@ word-of-spec =
     Inv-loop
     μ-loop
     loop-holds
-    sub-j
-    mul-text-bit
-    add-text-bit
-    text-bit-requires
+    (λ c. search needs)
+    (λ c. search needs)
+    (λ c. search needs)
+    (λ c κs. search needs)
     mul-w
     add-w
-    loop-less
+    (λ c. search needs)
     loop-again
     returns)

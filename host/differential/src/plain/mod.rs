@@ -23,7 +23,7 @@ pub const MOST_BYTES: u64 = 4096;
 
 /// The arguments that all calls share.
 #[derive(Clone, Copy, Debug)]
-pub struct Lent<'a> {
+pub struct Passed<'a> {
     /// The words of the row.
     pub words: &'a [u64],
     /// The bit count `n`.
@@ -40,7 +40,7 @@ pub struct Lent<'a> {
 type Found = Result<Option<u64>, u8>;
 
 /// Makes a call.
-pub fn ask(lent: Lent, call: Call) -> Answer {
+pub fn ask(lent: Passed, call: Call) -> Answer {
     let found = |found: Found| found.map(Answer::from);
     let answer = match call {
         Call::FwdSearch { at, r } => lent.admit().and_then(|()| found(lent.search(Forward, at, r.into()))),
@@ -76,7 +76,7 @@ pub fn ask(lent: Lent, call: Call) -> Answer {
 }
 
 /// SCOPE, Refusals: the tests before an answer, in their order.
-impl Lent<'_> {
+impl Passed<'_> {
     /// Tests refusals 1 to 4.
     pub fn admit(&self) -> Result<(), u8> {
         // Refusal 1: the block size is invalid.

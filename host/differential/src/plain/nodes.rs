@@ -1,6 +1,6 @@
 //! SCOPE, The node buffer: the layout of the min-max tree and the entries that a build writes.
 
-use super::Lent;
+use super::Passed;
 
 /// The three entries of a min-max node: total, least and greatest running excess.
 #[derive(Clone, Copy, Debug, PartialEq, Eq)]
@@ -10,7 +10,7 @@ pub(super) struct Node {
     pub(super) greatest: i128,
 }
 
-impl Lent<'_> {
+impl Passed<'_> {
     /// Returns `L`, the number of block leaves.
     pub(super) fn leaves(&self) -> u64 {
         self.bits.div_ceil(self.block)

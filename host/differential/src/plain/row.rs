@@ -1,9 +1,9 @@
 //! SCOPE, The row and its excess; SCOPE, The calls: the bits of the row, and the calls that consist of searches.
 
 use super::walk::Way::{self, Backward, Forward};
-use super::{Found, Lent};
+use super::{Found, Passed};
 
-impl Lent<'_> {
+impl Passed<'_> {
     /// Tests whether bit `i` is an open bit. The least significant bit of a word comes first.
     pub(super) fn bit(&self, i: u64) -> bool {
         self.words[(i / 64) as usize] >> (i % 64) & 1 == 1
@@ -147,7 +147,7 @@ impl Lent<'_> {
 }
 
 /// SCOPE, Listing children.
-impl Lent<'_> {
+impl Passed<'_> {
     /// Returns the encoded answers of the steps of a listing, up to and including the first nothing, but at most `room`.
     ///
     /// A forward listing goes from the first child to each next sibling. A backward listing goes from the last child to each

@@ -5,15 +5,15 @@ fn row(text: &str) -> Row {
     Row::new(&text.bytes().map(|byte| byte == b'(').collect::<Vec<_>>())
 }
 
-fn lend<'a>(row: &'a Row, nodes: &'a [i64], block: u64) -> Lent<'a> {
-    Lent { words: &row.words, bits: row.bits as u64, nodes, block, most: MOST_WORDS }
+fn pass<'a>(row: &'a Row, nodes: &'a [i64], block: u64) -> Passed<'a> {
+    Passed { words: &row.words, bits: row.bits as u64, nodes, block, most: MOST_WORDS }
 }
 
 /// Makes a call with a node buffer as built.
 fn asked(text: &str, call: Call) -> Answer {
     let row = row(text);
-    let nodes = lend(&row, &[], 8).build();
-    ask(lend(&row, &nodes, 8), call)
+    let nodes = pass(&row, &[], 8).build();
+    ask(pass(&row, &nodes, 8), call)
 }
 
 const T: &str = "(()(()))";
@@ -40,9 +40,9 @@ fn cases_a_to_l() {
 
 #[test]
 fn the_small_rows_that_are_run() {
-    assert_eq!(lend(&row(T), &[], 8).build(), [0, 0, 3, 0, 0, 3]);
+    assert_eq!(pass(&row(T), &[], 8).build(), [0, 0, 3, 0, 0, 3]);
     let forty = Row::new(&[true; 40]);
-    let admitted = |nodes: usize, block| lend(&forty, &vec![0; nodes], block).admit();
+    let admitted = |nodes: usize, block| pass(&forty, &vec![0; nodes], block).admit();
     assert_eq!((admitted(35, 8), admitted(36, 8)), (Err(4), Ok(())));
     assert_eq!((admitted(36, 65_536), admitted(36, 65_544), admitted(36, 12)), (Ok(()), Err(1), Err(1)));
     for call in Call::every(0) {
@@ -53,7 +53,7 @@ fn the_small_rows_that_are_run() {
 
 #[test]
 fn inner_nodes_are_counted_as_tabled() {
-    let inner = |leaves: usize| lend(&Row::new(&vec![true; 8 * leaves]), &[], 8).inner();
+    let inner = |leaves: usize| pass(&Row::new(&vec![true; 8 * leaves]), &[], 8).inner();
     assert_eq!([1, 2, 3, 4, 5, 8, 9].map(inner), [1, 1, 3, 3, 7, 7, 15]);
 }
 
@@ -71,13 +71,13 @@ fn excess(row: &Row) -> Vec<i64> {
 fn over_nodes_as_built_the_walk_finds_what_the_definitions_say() {
     for row in (0..=12).flat_map(rows::every) {
         let e = excess(&row);
-        let nodes = lend(&row, &[], 8).build();
+        let nodes = pass(&row, &[], 8).build();
         for i in 0..row.bits {
             for r in -(row.bits as i64)..=row.bits as i64 {
                 let fwd = (i + 1..row.bits).find(|&j| e[j + 1] == e[i + 1] + r);
                 let bwd = (0..i).rev().find(|&j| e[j] == e[i] + r);
                 let at = i as u64;
-                let asked = |call| ask(lend(&row, &nodes, 8), call);
+                let asked = |call| ask(pass(&row, &nodes, 8), call);
                 assert_eq!(
                     asked(Call::FwdSearch { at, r }),
                     Answer::from(fwd.map(|j| j as u64)),
@@ -99,9 +99,9 @@ fn over_nodes_as_built_the_walk_finds_what_the_definitions_say() {
 #[test]
 fn a_listing_over_foreign_nodes_ends_in_refusal_5() {
     let row = row("((((())))((()()())))");
-    let mut nodes = lend(&row, &[], 8).build();
+    let mut nodes = pass(&row, &[], 8).build();
     nodes[3 * 4] += 3;
-    let steps = ask(lend(&row, &nodes, 8), Call::RevChildren { node: 9, room: 10 });
+    let steps = ask(pass(&row, &nodes, 8), Call::RevChildren { node: 9, room: 10 });
     assert_eq!(steps, Answer::Steps(vec![5, -6, -1]));
 }
 

@@ -1,7 +1,7 @@
 //! SCOPE, How a search walks: start block, climb, descent, target block.
 
 use super::nodes::Node;
-use super::{Found, Lent};
+use super::{Found, Passed};
 
 /// The direction of a search.
 #[derive(Clone, Copy, PartialEq, Eq)]
@@ -11,7 +11,7 @@ pub(super) enum Way {
 }
 use Way::{Backward, Forward};
 
-impl Lent<'_> {
+impl Passed<'_> {
     /// Answers `fwd_search(i, r)` or `bwd_search(i, r)`. Refusals 1 to 4 do not apply.
     pub(super) fn search(&self, way: Way, i: u64, r: i128) -> Found {
         // A position past the row and an `r` out of reach give nothing before any min-max node is examined.

@@ -11,13 +11,15 @@ use crate::{words, Refusal};
 
 /// A row of parentheses and its node buffer, each owned or borrowed.
 ///
-/// - Calls on positions accept any number. They return `Ok(None)` if the position is past the end of the row.
+/// - Calls on positions accept any number. They return `Ok(None)` if the number is not below the bit count.
 /// - Calls on outline nodes take handles. They return [`Refusal::NotAHandle`] for any other number.
 ///
 /// Every answer is correct if the node buffer is as built. Parsing, [`build`](Tree::build) and [`build_in`](Tree::build_in)
-/// produce such a node buffer. [`from_parts`](Tree::from_parts) accepts any node buffer, and
-/// [`is_as_built`](Tree::is_as_built) tests it. If it is not as built, a call can return [`Refusal::NodesMisfit`] or a wrong
-/// answer. A wrong position is still a position of the row.
+/// produce such a node buffer.
+///
+/// [`from_parts`](Tree::from_parts) accepts any entries, and [`is_as_built`](Tree::is_as_built) tests them. **With a node
+/// buffer that is not as built, a call can return a wrong answer instead of [`Refusal::NodesMisfit`].** A wrong position is
+/// still below the bit count.
 ///
 /// ```
 /// use vault::{Refusal, Tree};
@@ -44,8 +46,8 @@ impl<'a> Tree<'a> {
 
     /// Creates the tree of a row and builds its node buffer.
     ///
-    /// Bit `i` of the row is bit `i % 64` of word `i / 64`, where bit 0 of a word is the least significant one. The tree keeps
-    /// the words as they are passed, owned or borrowed.
+    /// Bit `i` of the row is bit `i % 64` of word `i / 64`, where bit 0 of a word is the least significant one. The tree owns
+    /// the words if they are passed as a vector, and borrows them if they are passed as a slice. It owns its node buffer.
     ///
     /// ```
     /// use vault::Tree;
@@ -60,8 +62,8 @@ impl<'a> Tree<'a> {
     /// ```
     pub fn build(words: impl Into<Cow<'a, [u64]>>, bits: usize, block: usize) -> Result<Self, Refusal> {
         let words = words.into();
-        // The build into an empty slice tests the block size, the bit count and the words. Only after these tests is it safe
-        // to compute the size of the node buffer.
+        // The build into an empty slice tests the block size, the bit count and the number of words. The size of the node
+        // buffer is computed only after these tests: block size 0 would divide by 0, and a huge bit count would overflow.
         let nodes = match words::build(&words, bits as u64, &mut [], block as u64) {
             Err(Refusal::TooFewNodes) => {
                 let mut nodes = vec![0; node_numbers(bits, block)];
@@ -75,7 +77,8 @@ impl<'a> Tree<'a> {
 
     /// Creates the tree of a row and builds its node buffer in the slice `nodes`.
     ///
-    /// Elements of `nodes` after the entries that the row needs are unchanged. On refusal the whole slice is unchanged.
+    /// The [crate documentation](crate#size-of-the-node-buffer) gives the number of entries that the row needs. Only these
+    /// entries are written. All later elements keep their value. On refusal the whole slice is unchanged.
     ///
     /// ```
     /// use vault::{Refusal, Tree};
@@ -102,8 +105,8 @@ impl<'a> Tree<'a> {
 
     /// Creates a tree from a row and an existing node buffer.
     ///
-    /// Only the block size, the bit count and the two lengths are tested. [`is_as_built`](Tree::is_as_built) tests the entries
-    /// of the node buffer.
+    /// Only the block size, the bit count and the two lengths are tested. With a node buffer that is not as built, calls can
+    /// return wrong answers. [`is_as_built`](Tree::is_as_built) tests the entries.
     ///
     /// ```
     /// use vault::Tree;
@@ -120,7 +123,7 @@ impl<'a> Tree<'a> {
         block: usize,
     ) -> Result<Self, Refusal> {
         let tree = Tree { words: words.into(), bits, nodes: nodes.into(), block };
-        // A call past the end of the row makes all tests of its arguments and then reads neither bits nor entries.
+        // This call tests all its arguments. Its position is not below the bit count, so it reads neither bits nor entries.
         tree.close(bits)?;
         Ok(tree)
     }
@@ -194,13 +197,14 @@ impl Tree<'_> {
         words::one_tree(&self.words, self.bits as u64).expect(TESTED)
     }
 
-    /// Tests whether the node buffer begins with exactly the entries that a build writes. If so, every answer is correct.
+    /// Tests whether the node buffer begins with exactly the entries that a build writes for this row, bit count and block
+    /// size. If so, every answer is correct.
     pub fn is_as_built(&self) -> bool {
         ask!(self.as_built()).expect(TESTED)
     }
 }
 
-/// The panic text of calls that cannot refuse, because the constructors make the same tests.
+/// The panic text of calls that never refuse, because the constructors have made the same tests.
 const TESTED: &str = "the constructor of the tree tested its words and its node buffer";
 
 /// Calls a function of [`words`] on the row and the node buffer of a tree.
@@ -211,7 +215,7 @@ macro_rules! ask {
 }
 use ask;
 
-/// Converts an answered position to an index. Both types have 64 bits.
+/// Converts the position in an answer from `u64` to `usize`. Both types have 64 bits.
 #[inline]
 fn place(answer: Result<Option<u64>, Refusal>) -> Result<Option<usize>, Refusal> {
     answer.map(|found| found.map(|at| at as usize))

@@ -1,9 +1,11 @@
 use super::{ask, place, Tree};
 use crate::{words, Refusal};
 
-/// Calls on positions. `E(k)` is the excess: open bits minus close bits among the first `k` bits.
+/// Calls on positions. They return `None` if `at` is not below the bit count.
+///
+/// `E(k)` is the excess: open bits minus close bits among the first `k` bits.
 impl Tree<'_> {
-    /// Returns the least position `j > at` with `E(j + 1) = E(at + 1) + r`.
+    /// Returns the least position `j > at` of the row with `E(j + 1) = E(at + 1) + r`, or `None` if there is none.
     ///
     /// ```
     /// use vault::Tree;
@@ -19,7 +21,7 @@ impl Tree<'_> {
         place(ask!(self.fwd_search(at as u64, r)))
     }
 
-    /// Returns the greatest position `j < at` with `E(j) = E(at) + r`.
+    /// Returns the greatest position `j < at` with `E(j) = E(at) + r`, or `None` if there is none.
     ///
     /// ```
     /// use vault::Tree;
@@ -34,21 +36,25 @@ impl Tree<'_> {
         place(ask!(self.bwd_search(at as u64, r)))
     }
 
-    /// Returns the position of the close bit that matches the open bit at `at`: `fwd_search(at, -1)`.
+    /// Returns the position of the close bit that matches the open bit at `at`, or `None` if there is none.
+    ///
+    /// Exactly, for any bit at `at`: `fwd_search(at, -1)`.
     #[inline]
     pub fn close(&self, at: usize) -> Result<Option<usize>, Refusal> {
         place(ask!(self.close(at as u64)))
     }
 
-    /// Returns the position of the open bit that matches the close bit at `at`: `bwd_search(at, -1)`.
+    /// Returns the position of the open bit that matches the close bit at `at`, or `None` if there is none.
+    ///
+    /// Exactly, for any bit at `at`: `bwd_search(at, -1)`.
     #[inline]
     pub fn open(&self, at: usize) -> Result<Option<usize>, Refusal> {
         place(ask!(self.open(at as u64)))
     }
 
-    /// Returns the innermost outline node around the pair of parentheses that has a bit at `at`.
+    /// Returns the handle of the nearest pair of parentheses around the pair of the bit at `at`, or `None` if there is none.
     ///
-    /// It is `bwd_search(at, -1)` at an open bit and `bwd_search(at, -2)` at a close bit.
+    /// Exactly: `bwd_search(at, -1)` if the bit at `at` is an open bit, and `bwd_search(at, -2)` if it is a close bit.
     ///
     /// ```
     /// use vault::Tree;

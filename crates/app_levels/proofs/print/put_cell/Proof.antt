@@ -1,4 +1,4 @@
--- `outline::print::put_cell` meets its contract: one text behind the other. Assumes nothing.
+-- `app_levels::print::put_cell` puts a number, then the byte after it. Assumes nothing.
 use mathlib.Core.Path.{_≡_}
 use mathlib.Core.List.{[], _∷_}
 use lib.ListN.{length}
@@ -9,15 +9,6 @@ use Rattle.app_page.proofs.Pages.{adds-then}
 use Rattle.app_levels.proofs.print.put_cell.Statement.{statement}
 use Rattle.app_levels.proofs.print.put_cell.Tie as tie
 
-put-number-requires : tie.Need-put-number-requires
-put-number-requires c κs = search needs
-
-put-requires : tie.Need-put-requires
-put-requires c κs = search needs
-
-same-length : tie.Need-same-length
-same-length c = search needs
-
 returns : tie.Need-returns
 returns c =
     let p = c .before .before in
@@ -27,4 +18,4 @@ returns c =
     adds-then (a .page .now) (o .put-number .last .0) (p .put .last .0) (decimalOf (a .n)) (a .behind ∷ []) _ _ _ e (o .put-number .ensures) (p .put .ensures)
 
 pub put-cell-spec : {M : Type 1} → statement M
-put-cell-spec = tie.close (tie.spec put-number-requires put-requires same-length returns)
+put-cell-spec = tie.close (tie.spec (λ c κs. search needs) (λ c κs. search needs) (λ c. search needs) returns)

@@ -1,4 +1,4 @@
--- `outline::print::put_end` meets its contract: one text behind the other. Assumes nothing.
+-- `app_levels::print::put_end` puts an answer, then the byte after it. Assumes nothing.
 use mathlib.Core.Path.{_≡_}
 use mathlib.Core.List.{[], _∷_}
 use lib.ListN.{length}
@@ -10,15 +10,6 @@ use borrow.Author.Needs.{needs}
 use Rattle.app_levels.proofs.print.put_end.Statement.{statement}
 use Rattle.app_levels.proofs.print.put_end.Tie as tie
 
-put-found-requires : tie.Need-put-found-requires
-put-found-requires c κs = search needs
-
-put-requires : tie.Need-put-requires
-put-requires c κs = search needs
-
-same-length : tie.Need-same-length
-same-length c = search needs
-
 returns : tie.Need-returns
 returns c =
     let p = c .before .before in
@@ -28,4 +19,4 @@ returns c =
     adds-then (a .page .now) (o .put-found .last .0) (p .put .last .0) (answerText (paperFound (a .f))) (a .behind ∷ []) _ _ _ e (o .put-found .ensures) (p .put .ensures)
 
 pub put-end-spec : {M : Type 1} → statement M
-put-end-spec = tie.close (tie.spec put-found-requires put-requires same-length returns)
+put-end-spec = tie.close (tie.spec (λ c κs. search needs) (λ c κs. search needs) (λ c. search needs) returns)

@@ -1,5 +1,5 @@
--- `outline::print::put_levels` meets its contract. The loop's invariant: once the levels from this one on are put, all stand on the page. The
--- measure is the levels left.
+-- `app_levels::print::put_levels` puts the levels. Invariant of the loop: once the levels from this one on are put, all levels are on the page.
+-- Measure: the levels left.
 -- Assumes nothing.
 use mathlib.Core.Path.{_≡_, sym, ap, _∙_}
 use Prim.Native.Nat.{_-_, _≤_}
@@ -22,36 +22,12 @@ abbrev μ-loop : tie.MeasureT-loop
 loop-holds : tie.Need-loop-holds Inv-loop μ-loop
 loop-holds c = (search needs, levels-start _ _ _ _ _)
 
-level-leftmost-requires : tie.Need-level-leftmost-requires Inv-loop μ-loop
-level-leftmost-requires c κs = search needs
-
-enum-known-v : tie.Need-enum-known-v Inv-loop μ-loop
-enum-known-v c = search needs
-
-put-level-requires : tie.Need-put-level-requires Inv-loop μ-loop
-put-level-requires c κs = search needs
-
-enum-told : tie.Need-enum-told Inv-loop μ-loop
-enum-told c = search needs
-
-same-length : tie.Need-same-length Inv-loop μ-loop
-same-length c = search needs
-
 returns : tie.Need-returns Inv-loop μ-loop
 returns c =
     let m = c .before .before in
     let l = m .before .before in
-    let q = sym (m .level-leftmost .ensures .0) ∙ ap paperFound (c .enum-told .given .1) in
+    let q = sym (m .level-leftmost .ensures .answer) ∙ ap paperFound (c .enum-told .given .1) in
     nothing-end _ _ _ _ _ _ _ q (level-asked _ _ _ _ _ _ _ _ _ (l .loop .inv .1) (m .before .loop-test .taken))
-
-enum-known-k : tie.Need-enum-known-k Inv-loop μ-loop
-enum-known-k c = search needs
-
-put-refusal-requires : tie.Need-put-refusal-requires Inv-loop μ-loop
-put-refusal-requires c κs = search needs
-
-same-length-2 : tie.Need-same-length-2 Inv-loop μ-loop
-same-length-2 c = search needs
 
 returns-2 : tie.Need-returns-2 Inv-loop μ-loop
 returns-2 c =
@@ -59,15 +35,9 @@ returns-2 c =
     let b = p .before .before .before in
     let m = b .before .before in
     let l = m .before .before in
-    let q = sym (m .level-leftmost .ensures .0) ∙ ap paperFound (b .k .given .1) in
+    let q = sym (m .level-leftmost .ensures .answer) ∙ ap paperFound (b .k .given .1) in
     let h = level-asked _ _ _ _ _ _ _ _ _ (l .loop .inv .1) (m .before .loop-test .taken) in
     refused-end _ _ _ _ _ _ _ _ (p .put-refusal .last .0) _ q h (p .put-refusal .ensures)
-
-add-level : tie.Need-add-level Inv-loop μ-loop
-add-level c = search needs
-
-loop-less : tie.Need-loop-less Inv-loop μ-loop
-loop-less c = search needs
 
 loop-again : tie.Need-loop-again Inv-loop μ-loop
 loop-again c =
@@ -75,13 +45,10 @@ loop-again c =
     let b = p .before .before .before in
     let m = b .before .before in
     let l = m .before .before in
-    let q = sym (m .level-leftmost .ensures .0) ∙ ap paperFound (b .v .given .1) in
+    let q = sym (m .level-leftmost .ensures .answer) ∙ ap paperFound (b .v .given .1) in
     let page' = p .put-level .last .1 .1 .1 .1 .1 .0 in
     let e : length page' ≡ length (l .loop .page) = omega arith in
     (search needs, level-found _ _ _ _ _ _ _ _ _ (l .loop .inv .1) (m .before .loop-test .taken) _ q page' _ e (p .put-level .ensures))
-
-same-length-3 : tie.Need-same-length-3 Inv-loop μ-loop
-same-length-3 c = search needs
 
 returns-3 : tie.Need-returns-3 Inv-loop μ-loop
 returns-3 c = level-spent _ _ _ _ _ _ _ _ _ (c .before .loop .inv .1) (c .loop-test .left)
@@ -93,18 +60,18 @@ put-levels-spec =
     Inv-loop
     μ-loop
     loop-holds
-    level-leftmost-requires
-    enum-known-v
-    put-level-requires
-    enum-told
-    same-length
+    (λ c κs. search needs)
+    (λ c. search needs)
+    (λ c κs. search needs)
+    (λ c. search needs)
+    (λ c. search needs)
     returns
-    enum-known-k
-    put-refusal-requires
-    same-length-2
+    (λ c. search needs)
+    (λ c κs. search needs)
+    (λ c. search needs)
     returns-2
-    add-level
-    loop-less
+    (λ c. search needs)
+    (λ c. search needs)
     loop-again
-    same-length-3
+    (λ c. search needs)
     returns-3)

@@ -1,4 +1,4 @@
--- `outline::print::put_node` meets its contract: four cells one behind the other. Assumes nothing.
+-- `app_levels::print::put_node` puts the line of an outline node: four values, each with the byte after it, one after another. Assumes nothing.
 use mathlib.Core.Path.{_≡_}
 use mathlib.Core.List.{[], _∷_, _++_}
 use lib.IntN.{negsuc}
@@ -14,31 +14,11 @@ use Rattle.app_levels.proofs.print.put_node.Tie as tie
 use native.Mathlib.Omega.{arith}
 use borrow.Author.Needs.{needs}
 
-put-cell-requires : tie.Need-put-cell-requires
-put-cell-requires c κs = search needs
-
-put-cell-requires-2 : tie.Need-put-cell-requires-2
-put-cell-requires-2 c κs = search needs
-
-close-requires : tie.Need-close-requires
-close-requires c κs = search needs
-
-put-end-requires : tie.Need-put-end-requires
-put-end-requires c κs = search needs
-
-parent-requires : tie.Need-parent-requires
-parent-requires c κs = search needs
-
-put-end-requires-2 : tie.Need-put-end-requires-2
-put-end-requires-2 c κs = search needs
-
-same-length : tie.Need-same-length
-same-length c = search needs
-
 returns : tie.Need-returns
 unfolding nodeLine
 returns c =
-    -- where the parent's cell is put and the parent answered, the close's too, and the two cells before them, from the last to the first
+    -- z, p: the states after the parent is put and after it is answered; y, q: the same for the close position.
+    -- x, w: the states after the open position is put and after the level is put.
     let z = c .before .before in
     let p = z .before in
     let y = p .before .before .before .before in
@@ -53,8 +33,8 @@ returns c =
     let e1 : length (w .put-cell .last .0) ≡ length (a .page .now) = omega arith in
     let e2 : length (x .put-cell2 .last .0) ≡ length (w .put-cell .last .0) = omega arith in
     let e3 : length (y .put-end .last .0) ≡ length (x .put-cell2 .last .0) = omega arith in
-    let cd = rw (q .close .ensures .0) at (y .put-end .ensures) in
-    let pd = rw (p .parent .ensures .0) at (z .put-end2 .ensures) in
+    let cd = rw (q .close .ensures .answer) at (y .put-end .ensures) in
+    let pd = rw (p .parent .ensures .answer) at (z .put-end2 .ensures) in
     let three = adds-then (x .put-cell2 .last .0) (y .put-end .last .0) (z .put-end2 .last .0) closes above _ _ _ e3 cd pd in
     let two = adds-then (w .put-cell .last .0) (x .put-cell2 .last .0) (z .put-end2 .last .0) opens (closes ++ above) _ _ _ e2 (x .put-cell2 .ensures) three in
     adds-then (a .page .now) (w .put-cell .last .0) (z .put-end2 .last .0) level (opens ++ (closes ++ above)) _ _ _ e1 (w .put-cell .ensures) two
@@ -63,11 +43,11 @@ pub put-node-spec : {M : Type 1} → statement M
 put-node-spec =
     tie.close
     (tie.spec
-    put-cell-requires
-    put-cell-requires-2
-    close-requires
-    put-end-requires
-    parent-requires
-    put-end-requires-2
-    same-length
+    (λ c κs. search needs)
+    (λ c κs. search needs)
+    (λ c κs. search needs)
+    (λ c κs. search needs)
+    (λ c κs. search needs)
+    (λ c κs. search needs)
+    (λ c. search needs)
     returns)

@@ -1,4 +1,4 @@
--- `outline::print::put_refusal` meets its contract: one text behind the other. Assumes nothing.
+-- `app_levels::print::put_refusal` puts the line of a refusal: the text of the refusal, then the newline. Assumes nothing.
 use mathlib.Core.Path.{_≡_}
 use mathlib.Core.List.{[], _∷_}
 use lib.ListN.{length}
@@ -10,15 +10,6 @@ use borrow.Author.Needs.{needs}
 use Rattle.app_levels.proofs.print.put_refusal.Statement.{statement}
 use Rattle.app_levels.proofs.print.put_refusal.Tie as tie
 
-put-refused-requires : tie.Need-put-refused-requires
-put-refused-requires c κs = search needs
-
-put-requires : tie.Need-put-requires
-put-requires c κs = search needs
-
-same-length : tie.Need-same-length
-same-length c = search needs
-
 returns : tie.Need-returns
 returns c =
     let p = c .before .before in
@@ -28,4 +19,4 @@ returns c =
     adds-then (a .page .now) (o .put-refused .last .0) (p .put .last .0) (refusedText (numberOf (a .k))) (10 ∷ []) _ _ _ e (o .put-refused .ensures) (p .put .ensures)
 
 pub put-refusal-spec : {M : Type 1} → statement M
-put-refusal-spec = tie.close (tie.spec put-refused-requires put-requires same-length returns)
+put-refusal-spec = tie.close (tie.spec (λ c κs. search needs) (λ c κs. search needs) (λ c. search needs) returns)

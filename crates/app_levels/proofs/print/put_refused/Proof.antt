@@ -1,4 +1,4 @@
--- `outline::print::put_refused` meets its contract: one text behind the other. Assumes nothing.
+-- `app_levels::print::put_refused` puts the text of a refusal: the word, then the number. Assumes nothing.
 use mathlib.Core.Path.{_≡_}
 use mathlib.Core.List.{[], _∷_}
 use lib.ListN.{length}
@@ -11,25 +11,10 @@ use borrow.Author.Needs.{needs}
 use Rattle.app_levels.proofs.print.put_refused.Statement.{statement}
 use Rattle.app_levels.proofs.print.put_refused.Tie as tie
 
-slice-aggregate-put-text : tie.Need-slice-aggregate-put-text
-slice-aggregate-put-text c = search needs
-
-put-text-requires : tie.Need-put-text-requires
-put-text-requires c κs = search needs
-
-number-requires : tie.Need-number-requires
-number-requires c κs = search needs
-
-put-number-requires : tie.Need-put-number-requires
-put-number-requires c κs = search needs
-
-same-length : tie.Need-same-length
-same-length c = search needs
-
 returns : tie.Need-returns
 unfolding refusedText
 returns c =
-    -- where the number is put and answered, and where the word before it is put
+    -- p, n, o: the states after the number is put, after `number` answers it, and after the word is put.
     let p = c .before .before in
     let n = p .before in
     let o = n .before .before .before .before in
@@ -42,9 +27,9 @@ pub put-refused-spec : {M : Type 1} → statement M
 put-refused-spec =
     tie.close
     (tie.spec
-    slice-aggregate-put-text
-    put-text-requires
-    number-requires
-    put-number-requires
-    same-length
+    (λ c. search needs)
+    (λ c κs. search needs)
+    (λ c κs. search needs)
+    (λ c κs. search needs)
+    (λ c. search needs)
     returns)

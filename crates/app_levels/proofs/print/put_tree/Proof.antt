@@ -1,4 +1,4 @@
--- `outline::print::put_tree` meets its contract: the first line's two cells, then the levels. Assumes nothing.
+-- `app_levels::print::put_tree` puts the page: the two numbers of the first line, then the levels. Assumes nothing.
 use mathlib.Core.Path.{_≡_}
 use lib.ListN.{length}
 use Rattle.app_levels.proofs.Lines.{tree-whole}
@@ -6,18 +6,6 @@ use native.Mathlib.Omega.{arith}
 use borrow.Author.Needs.{needs}
 use Rattle.app_levels.proofs.print.put_tree.Statement.{statement}
 use Rattle.app_levels.proofs.print.put_tree.Tie as tie
-
-put-cell-requires : tie.Need-put-cell-requires
-put-cell-requires c κs = search needs
-
-put-cell-requires-2 : tie.Need-put-cell-requires-2
-put-cell-requires-2 c κs = search needs
-
-put-levels-requires : tie.Need-put-levels-requires
-put-levels-requires c κs = search needs
-
-same-length : tie.Need-same-length
-same-length c = search needs
 
 returns : tie.Need-returns
 returns c =
@@ -33,4 +21,4 @@ returns c =
 pub put-tree-spec : {M : Type 1} → statement M
 put-tree-spec =
     tie.close
-    (tie.spec put-cell-requires put-cell-requires-2 put-levels-requires same-length returns)
+    (tie.spec (λ c κs. search needs) (λ c κs. search needs) (λ c κs. search needs) (λ c. search needs) returns)

@@ -1,4 +1,5 @@
--- `outline::whole::put_answer` meets its contract: the page of the tree that was read, or the line of its refusal. Assumes nothing.
+-- `app_levels::whole::put_answer` puts all output on the page: the lines of the tree that was read, or the line of a refusal. Each case follows
+-- from the promise of the function that puts it, because the page has room. Assumes nothing.
 use mathlib.Core.Path.{_≡_, sym, ap, _∙_}
 use Prim.Native.Nat.{_≤_}
 use lib.ListN.{length}
@@ -11,28 +12,13 @@ use borrow.Author.Needs.{needs}
 use Rattle.app_levels.proofs.whole.put_answer.Statement.{statement}
 use Rattle.app_levels.proofs.whole.put_answer.Tie as tie
 
-read-tree-requires : tie.Need-read-tree-requires
-read-tree-requires c κs = search needs
-
-enum-known-n : tie.Need-enum-known-n
-enum-known-n c = search needs
-
 put-built-requires : tie.Need-put-built-requires
 put-built-requires c κs =
     let b = c .before .before .before in
     let r = b .before .before in
     let s = r .before .before .before .before .args .bytes .now in
-    let i = input-taken s blankWords _ (sym (ap paperRead (b .n .given .1)) ∙ r .read-tree .ensures .0) in
-    (i .short, rw (r .read-tree .ensures .1) (i .tree))
-
-enum-known-k : tie.Need-enum-known-k
-enum-known-k c = search needs
-
-put-refusal-requires : tie.Need-put-refusal-requires
-put-refusal-requires c κs = search needs
-
-same-length : tie.Need-same-length
-same-length c = search needs
+    let i = input-taken s blankWords _ (sym (ap paperRead (b .n .given .1)) ∙ r .read-tree .ensures .answer) in
+    rw (r .read-tree .ensures .slice) i
 
 returns : tie.Need-returns
 returns c =
@@ -41,14 +27,11 @@ returns c =
     let r = b .before .before in
     let a = r .before .before .before .before .args in
     let s = a .bytes .now in
-    let q = printed-tree s _ (sym (ap paperRead (b .n .given .1)) ∙ r .read-tree .ensures .0) in
-    let h = rw (r .read-tree .ensures .1) at (p .put-built .ensures) in
+    let q = printed-tree s _ (sym (ap paperRead (b .n .given .1)) ∙ r .read-tree .ensures .answer) in
+    let h = rw (r .read-tree .ensures .slice) at (p .put-built .ensures) in
     let e : length (p .put-built .last .1 .1 .0) ≡ length (a .page .now) = omega arith in
     let l : length (printed s) ≤ length (a .page .now) = omega (arith, printed-fits s) in
     adds-front (a .page .now) (p .put-built .last .1 .1 .0) (printed s) _ e l (rw q at h)
-
-same-length-2 : tie.Need-same-length-2
-same-length-2 c = search needs
 
 returns-2 : tie.Need-returns-2
 returns-2 c =
@@ -57,7 +40,7 @@ returns-2 c =
     let r = b .before .before in
     let a = r .before .before .before .before .args in
     let s = a .bytes .now in
-    let q = printed-refused s _ (sym (ap paperRead (b .k .given .1)) ∙ r .read-tree .ensures .0) in
+    let q = printed-refused s _ (sym (ap paperRead (b .k .given .1)) ∙ r .read-tree .ensures .answer) in
     let e : length (p .put-refusal .last .0) ≡ length (a .page .now) = omega arith in
     let l : length (printed s) ≤ length (a .page .now) = omega (arith, printed-fits s) in
     adds-front (a .page .now) (p .put-refusal .last .0) (printed s) _ e l (rw q at (p .put-refusal .ensures))
@@ -66,12 +49,12 @@ pub put-answer-spec : {M : Type 1} → statement M
 put-answer-spec =
     tie.close
     (tie.spec
-    read-tree-requires
-    enum-known-n
+    (λ c κs. search needs)
+    (λ c. search needs)
     put-built-requires
-    enum-known-k
-    put-refusal-requires
-    same-length
+    (λ c. search needs)
+    (λ c κs. search needs)
+    (λ c. search needs)
     returns
-    same-length-2
+    (λ c. search needs)
     returns-2)

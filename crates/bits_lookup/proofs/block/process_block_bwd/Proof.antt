@@ -1,4 +1,5 @@
--- `lookup::process_block_bwd` meets its contract: the byte's bits decide, or its numbers pass over it. Assumes nothing.
+-- `bits_lookup::process_block_bwd` scans a byte backward. A byte that does not qualify is passed by its total; otherwise its bits are
+-- read. Assumes nothing.
 use mathlib.Core.Path.{_≡_, refl, sym, ap, _∙_}
 use native.Mathlib.Omega.{arith}
 use borrow.Author.Needs.{needs}
@@ -14,31 +15,22 @@ use Rattle.bits_lookup.proofs.Passing.{total-back, more-fits}
 use Rattle.bits_lookup.proofs.block.process_block_bwd.Statement.{statement}
 use Rattle.bits_lookup.proofs.block.process_block_bwd.Tie as tie
 
--- where the byte is measured, from the test of its numbers
+-- The state after the summary of the byte is computed, seen from the test whether it qualifies.
 abbrev measured : tie.After-holds-back → tie.After-byte-summary
 measured c = c .before .before .before
-
-byte-summary-requires : tie.Need-byte-summary-requires
-byte-summary-requires c κs = search needs
 
 add-s : tie.Need-add-s
 add-s c =
     let m = c .before .before in
     let s = m .before in
-    rw (toZ-ofZ w64 _ (s .fits .r), total-back (digit (s .args .b)) _ (m .byte-summary .ensures)) (more-fits (digit (s .args .b)) (s .args .r) (s .pre .1))
-
-holds-back-requires : tie.Need-holds-back-requires
-holds-back-requires c κs = search needs
-
-bits-bwd-requires : tie.Need-bits-bwd-requires
-bits-bwd-requires c κs = search needs
+    rw (toZ-ofZ w64 _ (s .fits .r), total-back (digit (s .args .b)) _ (m .byte-summary .ensures)) (more-fits (digit (s .args .b)) (s .args .r) (s .pre .room))
 
 returns : tie.Need-returns
 returns c = rw (toZ-ofZ w64 _ (measured (c .before .before) .before .fits .r)) at (c .bits-bwd .ensures)
 
 returns-2 : tie.Need-returns-2
 returns-2 c =
-    -- where its numbers are tested, where the byte is measured, and the entry
+    -- t is the state after the test whether the byte qualifies, m after its summary is computed, s at the entry.
     let t = c .before in
     let m = measured t in
     let s = m .before in
@@ -50,4 +42,4 @@ returns-2 c =
     rw g (sym (skip-backward f 8 0 (omega arith) (s .args .r) h))
 
 pub process-block-bwd-spec : {M : Type 1} → statement M
-process-block-bwd-spec = tie.close (tie.spec byte-summary-requires add-s holds-back-requires bits-bwd-requires returns returns-2)
+process-block-bwd-spec = tie.close (tie.spec (λ c κs. search needs) add-s (λ c κs. search needs) (λ c κs. search needs) returns returns-2)

@@ -1,5 +1,5 @@
--- `lookup::table` meets its contract: the table is the list that the rule makes, which is computed over all 256 bytes at once.
--- Assumes nothing.
+-- `bits_lookup::table` returns the lookup table. The prover computes the list that the rule gives for all 256 bytes at once and
+-- compares it with the table. Assumes nothing.
 use Rattle.ints.specs.Order.{minZ, maxZ}
 use Rattle.row.specs.Bits.{digit}
 use Rattle.row.specs.Excess.{sign, excess}

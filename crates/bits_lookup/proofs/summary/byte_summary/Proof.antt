@@ -1,4 +1,4 @@
--- `lookup::byte_summary` meets its contract: an entry gives back what was put into it. Assumes nothing.
+-- `bits_lookup::byte_summary` returns the summary of a byte. The two parts of its table entry give back least and greatest. Assumes nothing.
 use mathlib.Core.Path.{sym, ap, _∙_}
 use Prim.Native.Nat.{ℕ, _/_, _%_}
 use lib.IntN.{pos, _-ℤ_}
@@ -11,21 +11,6 @@ use Rattle.bits_stretch.proofs.Full.{summary-size}
 use Rattle.bits_lookup.proofs.Entries.{entry-of, entry-least, entry-greatest, from-start}
 use Rattle.bits_lookup.proofs.summary.byte_summary.Statement.{statement}
 use Rattle.bits_lookup.proofs.summary.byte_summary.Tie as tie
-
-mul-e : tie.Need-mul-e
-mul-e c = search needs
-
-element-copy-out-e : tie.Need-element-copy-out-e
-element-copy-out-e c = search needs
-
-byte-total-requires : tie.Need-byte-total-requires
-byte-total-requires c κs = search needs
-
-lowered-requires : tie.Need-lowered-requires
-lowered-requires c κs = search needs
-
-lowered-requires-2 : tie.Need-lowered-requires-2
-lowered-requires-2 c κs = search needs
 
 returns : tie.Need-returns
 returns c =
@@ -43,9 +28,9 @@ pub byte-summary-spec : {M : Type 1} → statement M
 byte-summary-spec =
     tie.close
     (tie.spec
-    mul-e
-    element-copy-out-e
-    byte-total-requires
-    lowered-requires
-    lowered-requires-2
+    (λ c. search needs)
+    (λ c. search needs)
+    (λ c κs. search needs)
+    (λ c κs. search needs)
+    (λ c κs. search needs)
     returns)

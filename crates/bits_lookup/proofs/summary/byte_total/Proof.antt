@@ -1,4 +1,4 @@
--- `lookup::byte_total` meets its contract: the law of ones and zeros at 8 bits. Assumes nothing.
+-- `bits_lookup::byte_total` returns the total of a byte. By the law total-is, for 8 bits, ones minus zeros is the excess. Assumes nothing.
 use native.Mathlib.Omega.{arith}
 use lib.Count.{ones, ones-le}
 use Rattle.bits_lookup.proofs.Counts.{ones-fit, zeros-fit, total-fits, total-is}

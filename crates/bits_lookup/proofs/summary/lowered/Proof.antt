@@ -1,4 +1,4 @@
--- `lookup::lowered` meets its contract: a number of 16 bits, less 8, is one of 64. Assumes nothing.
+-- `bits_lookup::lowered` subtracts 8 from a part of an entry. Any u16 minus 8 fits into an i64. Assumes nothing.
 use mathlib.Core.Path.{refl, _∙_}
 use mir.Syntax.{w64}
 use mir.ValLaws.{toZ-ofZ}
@@ -10,9 +10,6 @@ use Rattle.ints.proofs.Shapes.{zsum}
 use Rattle.bits_lookup.proofs.summary.lowered.Statement.{statement}
 use Rattle.bits_lookup.proofs.summary.lowered.Tie as tie
 
-cast-result : tie.Need-cast-result
-cast-result c = search needs
-
 sub-result : tie.Need-sub-result
 sub-result c = rw (toZ-pos w64 {n = c .args .a} (omega arith)) (omega (zsum, diff (c .args .a) 8))
 
@@ -20,4 +17,4 @@ returns : tie.Need-returns
 returns c = toZ-ofZ w64 _ (sub-result c) ∙ rw (toZ-pos w64 {n = c .args .a} (omega arith)) refl
 
 pub lowered-spec : {M : Type 1} → statement M
-lowered-spec = tie.close (tie.spec cast-result sub-result returns)
+lowered-spec = tie.close (tie.spec (λ c. search needs) sub-result returns)

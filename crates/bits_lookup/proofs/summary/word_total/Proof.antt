@@ -1,4 +1,4 @@
--- `lookup::word_total` meets its contract: the law of ones and zeros at 64 bits. Assumes nothing.
+-- `bits_lookup::word_total` returns the total of a word. By the law total-is, for 64 bits, ones minus zeros is the excess. Assumes nothing.
 use native.Mathlib.Omega.{arith}
 use lib.Count.{ones, ones-le}
 use Rattle.bits_lookup.proofs.Counts.{ones-fit, zeros-fit, total-fits, total-is}

@@ -1,5 +1,5 @@
--- `scan::backward::bytes_bwd` meets its contract. The loop's invariant: what is left to do is the scan of the bytes from `from` to k for q,
--- and what is left of the word ends with byte k - 1. The measure is k. Assumes nothing.
+-- `bits_scan::bytes_bwd` scans bytes of a word backward. Loop invariant: the scan of bytes k - 1 down to `from` with the remainder q gives
+-- the result of the whole scan, and the highest byte of `rest` is byte k - 1 of the word. Measure: k. Assumes nothing.
 use mathlib.Core.Path.{_≡_, refl}
 use Prim.Native.Nat.{_-_, _*_, _%_, _^_, _≤_}
 use native.Mathlib.Omega.{arith}
@@ -23,25 +23,10 @@ Inv-loop t word from to r rest₀ k₀ q₀ rest k q =
 abbrev μ-loop : tie.MeasureT-loop
 μ-loop t word from to r rest₀ k₀ q₀ rest k q = k
 
-mul-rest : tie.Need-mul-rest Inv-loop μ-loop
-mul-rest c = search needs
-
-sub-rest : tie.Need-sub-rest Inv-loop μ-loop
-sub-rest c = search needs
-
-shl-rest : tie.Need-shl-rest Inv-loop μ-loop
-shl-rest c = search needs
-
 loop-holds : tie.Need-loop-holds Inv-loop μ-loop
 loop-holds c = (reading-start _ _ _ _ _, (omega arith, refl))
 
-sub-k : tie.Need-sub-k Inv-loop μ-loop
-sub-k c = search needs
-
-byte-of-requires : tie.Need-byte-of-requires Inv-loop μ-loop
-byte-of-requires c κs = search needs
-
--- byte k - 1 is read
+-- One turn of the loop reads byte k - 1.
 piece : (c : tie.After-process-block-bwd Inv-loop μ-loop) → (let s = c .before .before .before .before .args in let l = c .before .before .before .loop in
     Piece backward (digit (s .word)) (8 * (l .k - s .from)) (8 * s .from) (toZ w64 (l .q)) (8 * (l .k - 1)) (c .process-block-bwd .result) (8 * ((l .k - 1) - s .from)) (8 * s .from))
 piece c =
@@ -58,13 +43,7 @@ process-block-bwd-requires : tie.Need-process-block-bwd-requires Inv-loop μ-loo
 process-block-bwd-requires c κs =
     let l = c .before .before in
     let n = rw (toZ-ofZ w64 _ (l .before .fits .r)) at (l .loop .inv .0 .near) in
-    (l .before .pre .0, omega arith)
-
-enum-known-j : tie.Need-enum-known-j Inv-loop μ-loop
-enum-known-j c = search needs
-
-mul-t17 : tie.Need-mul-t17 Inv-loop μ-loop
-mul-t17 c = search needs
+    record { table = l .before .pre .table; room = omega arith }
 
 returns : tie.Need-returns Inv-loop μ-loop
 returns c =
@@ -74,12 +53,6 @@ returns c =
 
 add-t18 : tie.Need-add-t18 Inv-loop μ-loop
 add-t18 c = omega (arith, hit-within backward _ _ _ _ (returns c))
-
-enum-known-l : tie.Need-enum-known-l Inv-loop μ-loop
-enum-known-l c = search needs
-
-loop-less : tie.Need-loop-less Inv-loop μ-loop
-loop-less c = search needs
 
 loop-again : tie.Need-loop-again Inv-loop μ-loop
 loop-again c =
@@ -97,18 +70,18 @@ bytes-bwd-spec =
     (tie.spec
     Inv-loop
     μ-loop
-    mul-rest
-    sub-rest
-    shl-rest
+    (λ c. search needs)
+    (λ c. search needs)
+    (λ c. search needs)
     loop-holds
-    sub-k
-    byte-of-requires
+    (λ c. search needs)
+    (λ c κs. search needs)
     process-block-bwd-requires
-    enum-known-j
-    mul-t17
+    (λ c. search needs)
+    (λ c. search needs)
     add-t18
     returns
-    enum-known-l
-    loop-less
+    (λ c. search needs)
+    (λ c. search needs)
     loop-again
     returns-2)

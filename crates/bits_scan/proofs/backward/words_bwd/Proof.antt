@@ -1,5 +1,5 @@
--- `scan::backward::words_bwd` meets its contract. The loop's invariant: what is left to do is the scan of the bytes from `from` to k for q.
--- The measure is k. Assumes nothing.
+-- `bits_scan::words_bwd` scans bytes of a row backward, word by word. Loop invariant: the scan of bytes k - 1 down to `from` with the
+-- remainder q gives the result of the whole scan. Measure: k. Assumes nothing.
 use mathlib.Core.Path.{_≡_, refl}
 use Prim.Native.Nat.{ℕ, _-_, _*_, _/_, _≤_, _<_, max}
 use native.Mathlib.Omega.{arith}
@@ -14,7 +14,7 @@ use Rattle.bits_scan.proofs.Pieces.{Reading, Part, Piece, reading-start
 use Rattle.bits_scan.proofs.backward.words_bwd.Statement.{statement}
 use Rattle.bits_scan.proofs.backward.words_bwd.Tie as tie
 
--- bytes `start` to k, all in word (k - 1) / 8, are read first of those from `from` to k
+-- Of bytes `from` to k - 1, the bytes `start` to k - 1 are read first. They all lie in word (k - 1) / 8.
 module _ {from start k : ℕ} (more : from < k) (since : start ≡ max from (8 * ((k - 1) / 8))) where
   part : Part backward (8 * (k - from)) (8 * from) (8 * (k - start)) (8 * start) (8 * (start - from)) (8 * from)
   part = record { count = omega arith; first = omega arith; next = refl }
@@ -23,12 +23,13 @@ module _ {from start k : ℕ} (more : from < k) (since : start ≡ max from (8 *
   lies = record { count = omega arith; begin = omega arith; inside = omega arith }
 
 abbrev Inv-loop : tie.InvT-loop
-Inv-loop t words from to r k₀ q₀ k q = Reading backward (bitAt words) (8 * (to - from)) (8 * from) (toZ w64 r) (8 * (k - from)) (8 * from) (toZ w64 q) × (k ≤ to)
+Inv-loop t words from to r k₀ q₀ k q =
+    Reading backward (bitAt words) (8 * (to - from)) (8 * from) (toZ w64 r) (8 * (k - from)) (8 * from) (toZ w64 q) × (k ≤ to)
 
 abbrev μ-loop : tie.MeasureT-loop
 μ-loop t words from to r k₀ q₀ k q = k
 
--- the entry, from the loop, and the loop, from the answer of a word
+-- The entry of the function, seen from the head of the loop. The head of the loop, seen from the result for a word.
 abbrev entry : tie.At-loop Inv-loop μ-loop → tie.Start Inv-loop μ-loop
 entry l = l .before .before
 
@@ -38,34 +39,7 @@ top c = c .before .before .before .before
 loop-holds : tie.Need-loop-holds Inv-loop μ-loop
 loop-holds c = (reading-start _ _ _ _ _, omega arith)
 
-sub-i : tie.Need-sub-i Inv-loop μ-loop
-sub-i c = search needs
-
-mul-later : tie.Need-mul-later Inv-loop μ-loop
-mul-later c = search needs
-
-later-requires : tie.Need-later-requires Inv-loop μ-loop
-later-requires c κs = search needs
-
-mul-word-bwd : tie.Need-mul-word-bwd Inv-loop μ-loop
-mul-word-bwd c = search needs
-
-shared-slice-read-word-bwd : tie.Need-shared-slice-read-word-bwd Inv-loop μ-loop
-shared-slice-read-word-bwd c = search needs
-
-mul-word-bwd-2 : tie.Need-mul-word-bwd-2 Inv-loop μ-loop
-mul-word-bwd-2 c = search needs
-
-sub-word-bwd : tie.Need-sub-word-bwd Inv-loop μ-loop
-sub-word-bwd c = search needs
-
-mul-word-bwd-3 : tie.Need-mul-word-bwd-3 Inv-loop μ-loop
-mul-word-bwd-3 c = search needs
-
-sub-word-bwd-2 : tie.Need-sub-word-bwd-2 Inv-loop μ-loop
-sub-word-bwd-2 c = search needs
-
--- the bytes of word (k - 1) / 8 are read
+-- One turn of the loop reads bytes of word (k - 1) / 8.
 piece : (c : tie.After-word-bwd Inv-loop μ-loop) → (let e = c .before .before .later .result in let l = top c in let s = entry l .args in
     Piece backward (bitAt (s .words .now)) (8 * (l .loop .k - s .from)) (8 * s .from) (toZ w64 (l .loop .q)) (64 * ((l .loop .k - 1) / 8)) (c .word-bwd .result) (8 * (e - s .from)) (8 * s .from))
 piece c =
@@ -82,13 +56,7 @@ word-bwd-requires : tie.Need-word-bwd-requires Inv-loop μ-loop
 word-bwd-requires c κs =
     let l = c .before .before .before in
     let n = rw (toZ-ofZ w64 _ (entry l .fits .r)) at (l .loop .inv .0 .near) in
-    (entry l .pre .0, (omega arith, omega arith))
-
-enum-known-j : tie.Need-enum-known-j Inv-loop μ-loop
-enum-known-j c = search needs
-
-mul-t21 : tie.Need-mul-t21 Inv-loop μ-loop
-mul-t21 c = search needs
+    record { table = entry l .pre .table; some = omega arith; inside = omega arith; room = omega arith }
 
 returns : tie.Need-returns Inv-loop μ-loop
 returns c =
@@ -98,12 +66,6 @@ returns c =
 
 add-t22 : tie.Need-add-t22 Inv-loop μ-loop
 add-t22 c = omega (arith, hit-within backward _ _ _ _ (returns c))
-
-enum-known-l : tie.Need-enum-known-l Inv-loop μ-loop
-enum-known-l c = search needs
-
-loop-less : tie.Need-loop-less Inv-loop μ-loop
-loop-less c = search needs
 
 loop-again : tie.Need-loop-again Inv-loop μ-loop
 loop-again c =
@@ -120,21 +82,21 @@ words-bwd-spec =
     Inv-loop
     μ-loop
     loop-holds
-    sub-i
-    mul-later
-    later-requires
-    mul-word-bwd
-    shared-slice-read-word-bwd
-    mul-word-bwd-2
-    sub-word-bwd
-    mul-word-bwd-3
-    sub-word-bwd-2
+    (λ c. search needs)
+    (λ c. search needs)
+    (λ c κs. search needs)
+    (λ c. search needs)
+    (λ c. search needs)
+    (λ c. search needs)
+    (λ c. search needs)
+    (λ c. search needs)
+    (λ c. search needs)
     word-bwd-requires
-    enum-known-j
-    mul-t21
+    (λ c. search needs)
+    (λ c. search needs)
     add-t22
     returns
-    enum-known-l
-    loop-less
+    (λ c. search needs)
+    (λ c. search needs)
     loop-again
     returns-2)

@@ -1,5 +1,5 @@
--- `scan::forward::bytes_fwd` meets its contract. The loop's invariant: what is left to do is the scan of the bytes from k to `to` for q,
--- and what is left of the word begins with byte k. The measure is how many bytes are left. Assumes nothing.
+-- `bits_scan::bytes_fwd` scans bytes of a word forward. Loop invariant: the scan of bytes k to `to` - 1 with the remainder q gives the
+-- result of the whole scan, and the lowest byte of `rest` is byte k of the word. Measure: the number of bytes left. Assumes nothing.
 use mathlib.Core.Path.{_≡_, refl}
 use Prim.Native.Nat.{_-_, _+_, _*_, _/_, _^_}
 use native.Mathlib.Omega.{arith}
@@ -22,19 +22,10 @@ Inv-loop t word from to r rest₀ k₀ q₀ rest k q =
 abbrev μ-loop : tie.MeasureT-loop
 μ-loop t word from to r rest₀ k₀ q₀ rest k q = to - k
 
-mul-rest : tie.Need-mul-rest Inv-loop μ-loop
-mul-rest c = search needs
-
-shr-rest : tie.Need-shr-rest Inv-loop μ-loop
-shr-rest c = search needs
-
 loop-holds : tie.Need-loop-holds Inv-loop μ-loop
 loop-holds c = (reading-start _ _ _ _ _, refl)
 
-byte-of-requires : tie.Need-byte-of-requires Inv-loop μ-loop
-byte-of-requires c κs = search needs
-
--- byte k is read
+-- One turn of the loop reads byte k.
 piece : (c : tie.After-process-block-fwd Inv-loop μ-loop) → (let s = c .before .before .before .before .args in let l = c .before .before .before .loop in
     Piece forward (digit (s .word)) (8 * (s .to - l .k)) (8 * l .k) (toZ w64 (l .q)) (8 * l .k) (c .process-block-fwd .result) (8 * (s .to - (l .k + 1))) (8 * (l .k + 1)))
 piece c =
@@ -50,13 +41,7 @@ process-block-fwd-requires : tie.Need-process-block-fwd-requires Inv-loop μ-loo
 process-block-fwd-requires c κs =
     let l = c .before .before in
     let n = rw (toZ-ofZ w64 _ (l .before .fits .r)) at (l .loop .inv .0 .near) in
-    (l .before .pre .0, omega arith)
-
-enum-known-j : tie.Need-enum-known-j Inv-loop μ-loop
-enum-known-j c = search needs
-
-mul-t16 : tie.Need-mul-t16 Inv-loop μ-loop
-mul-t16 c = search needs
+    record { table = l .before .pre .table; room = omega arith }
 
 returns : tie.Need-returns Inv-loop μ-loop
 returns c =
@@ -66,15 +51,6 @@ returns c =
 
 add-t17 : tie.Need-add-t17 Inv-loop μ-loop
 add-t17 c = omega (arith, hit-within forward _ _ _ _ (returns c))
-
-enum-known-l : tie.Need-enum-known-l Inv-loop μ-loop
-enum-known-l c = search needs
-
-add-k : tie.Need-add-k Inv-loop μ-loop
-add-k c = search needs
-
-loop-less : tie.Need-loop-less Inv-loop μ-loop
-loop-less c = search needs
 
 loop-again : tie.Need-loop-again Inv-loop μ-loop
 loop-again c =
@@ -91,17 +67,17 @@ bytes-fwd-spec =
     (tie.spec
     Inv-loop
     μ-loop
-    mul-rest
-    shr-rest
+    (λ c. search needs)
+    (λ c. search needs)
     loop-holds
-    byte-of-requires
+    (λ c κs. search needs)
     process-block-fwd-requires
-    enum-known-j
-    mul-t16
+    (λ c. search needs)
+    (λ c. search needs)
     add-t17
     returns
-    enum-known-l
-    add-k
-    loop-less
+    (λ c. search needs)
+    (λ c. search needs)
+    (λ c. search needs)
     loop-again
     returns-2)

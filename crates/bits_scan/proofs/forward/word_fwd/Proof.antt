@@ -1,4 +1,5 @@
--- `scan::forward::word_fwd` meets its contract: a whole word that r is further than is passed over, and any other bytes are read. Assumes nothing.
+-- `bits_scan::word_fwd` scans bytes of a word forward. A whole word is passed by its total if |r| is above 64; otherwise its bytes are
+-- read. Assumes nothing.
 use native.Mathlib.Omega.{arith}
 use borrow.Author.Needs.{needs}
 use mir.Syntax.{w64}
@@ -9,36 +10,37 @@ use Rattle.bits_scan.proofs.Pieces.{far-fits, far-left}
 use Rattle.bits_scan.proofs.forward.word_fwd.Statement.{statement}
 use Rattle.bits_scan.proofs.forward.word_fwd.Tie as tie
 
-sub-if1 : tie.Need-sub-if1
-sub-if1 c = search needs
-
-word-total-requires : tie.Need-word-total-requires
-word-total-requires c κs = search needs
-
 sub-t10 : tie.Need-sub-t10
-sub-t10 c = let s = c .before .before .before in rw (toZ-ofZ w64 _ (s .fits .r)) (far-fits (s .args .word) forward (s .args .r) (s .pre .1 .1) (c .word-total .ensures))
+sub-t10 c =
+    let s = c .before .before .before in rw (toZ-ofZ w64 _ (s .fits .r)) (far-fits (s .args .word) forward (s .args .r) (s .pre .room) (c .word-total .ensures))
 
 returns : tie.Need-returns
 returns c =
     let s = c .before .before .before in
-    rw (toZ-ofZ w64 _ (s .fits .r)) (far-left (s .args .word) forward (s .args .r) (s .pre .1 .1) (c .word-total .ensures) (omega arith) (omega arith) (omega zsum))
-
-word-total-requires-2 : tie.Need-word-total-requires-2
-word-total-requires-2 c κs = search needs
+    rw (toZ-ofZ w64 _ (s .fits .r)) (far-left (s .args .word) forward (s .args .r) (s .pre .room) (c .word-total .ensures) (omega arith) (omega arith) (omega zsum))
 
 sub-t12 : tie.Need-sub-t12
-sub-t12 c = let s = c .before .before .before .before in rw (toZ-ofZ w64 _ (s .fits .r)) (far-fits (s .args .word) forward (s .args .r) (s .pre .1 .1) (c .word-total2 .ensures))
+sub-t12 c =
+    let s = c .before .before .before .before in rw (toZ-ofZ w64 _ (s .fits .r)) (far-fits (s .args .word) forward (s .args .r) (s .pre .room) (c .word-total2 .ensures))
 
 returns-2 : tie.Need-returns-2
 returns-2 c =
     let s = c .before .before .before .before in
-    rw (toZ-ofZ w64 _ (s .fits .r)) (far-left (s .args .word) forward (s .args .r) (s .pre .1 .1) (c .word-total2 .ensures) (omega arith) (omega arith) (omega zsum))
-
-bytes-fwd-requires : tie.Need-bytes-fwd-requires
-bytes-fwd-requires c κs = search needs
+    rw (toZ-ofZ w64 _ (s .fits .r)) (far-left (s .args .word) forward (s .args .r) (s .pre .room) (c .word-total2 .ensures) (omega arith) (omega arith) (omega zsum))
 
 returns-3 : tie.Need-returns-3
 returns-3 c = rw (toZ-ofZ w64 _ (c .before .before .fits .r)) at (c .bytes-fwd .ensures)
 
 pub word-fwd-spec : {M : Type 1} → statement M
-word-fwd-spec = tie.close (tie.spec sub-if1 word-total-requires sub-t10 returns word-total-requires-2 sub-t12 returns-2 bytes-fwd-requires returns-3)
+word-fwd-spec =
+    tie.close
+    (tie.spec
+    (λ c. search needs)
+    (λ c κs. search needs)
+    sub-t10
+    returns
+    (λ c κs. search needs)
+    sub-t12
+    returns-2
+    (λ c κs. search needs)
+    returns-3)

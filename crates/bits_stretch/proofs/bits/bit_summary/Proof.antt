@@ -6,11 +6,8 @@ use Rattle.bits_stretch.proofs.Full.{summary-first}
 use Rattle.bits_stretch.proofs.bits.bit_summary.Statement.{statement}
 use Rattle.bits_stretch.proofs.bits.bit_summary.Tie as tie
 
-sign-of-requires : tie.Need-sign-of-requires
-sign-of-requires c κs = search needs
-
 returns : tie.Need-returns
 returns c = rw (sign-back _ (c .sign-of .ensures)) (sym (summary-first _ _))
 
 pub bit-summary-spec : {M : Type 1} → statement M
-bit-summary-spec = tie.close (tie.spec sign-of-requires returns)
+bit-summary-spec = tie.close (tie.spec (λ c κs. search needs) returns)

@@ -23,12 +23,6 @@ abbrev μ-loop : tie.MeasureT-loop
 loop-holds : tie.Need-loop-holds Inv-loop μ-loop
 loop-holds c = (record { same = refl; room = rw (toZ-ofZ w64 _ (c .fits .r)) (omega arith) }, omega arith)
 
-sub-j : tie.Need-sub-j Inv-loop μ-loop
-sub-j c = search needs
-
-sign-of-requires : tie.Need-sign-of-requires Inv-loop μ-loop
-sign-of-requires c κs = search needs
-
 turn : (c : tie.After-sign-of Inv-loop μ-loop) → (let s = c .before .before .before .args in let l = c .before .before .loop in
     Turn backward (digit (s .word)) (l .j - s .from) (s .from) (toZ w64 (l .q)) (l .j - 1) ((l .j - 1) - s .from) (s .from) (toZ w64 (l .q) +ℤ toZ w64 (ofZ w64 (c .sign-of .result))))
 turn c = record { some = omega arith; here = omega arith; next = refl; left = ap (λ (s : ℤ). toZ w64 (c .before .before .loop .q) +ℤ s) (sign-back _ (c .sign-of .ensures)) }
@@ -37,10 +31,8 @@ add-q : tie.Need-add-q Inv-loop μ-loop
 add-q c = turn-fits (c .before .before .loop .inv .0) (turn c)
 
 returns : tie.Need-returns Inv-loop μ-loop
-returns c = rw (toZ-ofZ w64 _ (c .before .before .before .before .fits .r)) at (turn-hit (c .before .before .before .loop .inv .0) (turn (c .before)) (c .if1 .taken))
-
-loop-less : tie.Need-loop-less Inv-loop μ-loop
-loop-less c = search needs
+returns c =
+    rw (toZ-ofZ w64 _ (c .before .before .before .before .fits .r)) at (turn-hit (c .before .before .before .loop .inv .0) (turn (c .before)) (c .if1 .taken))
 
 loop-again : tie.Need-loop-again Inv-loop μ-loop
 loop-again c = (turn-on (c .before .before .before .loop .inv .0) (turn (c .before)) (c .if1 .left), omega arith)
@@ -49,4 +41,16 @@ returns-2 : tie.Need-returns-2 Inv-loop μ-loop
 returns-2 c = rw (toZ-ofZ w64 _ (c .before .before .fits .r)) at (going-done (c .before .loop .inv .0) (omega arith))
 
 pub bits-bwd-spec : {M : Type 1} → statement M
-bits-bwd-spec = tie.close (tie.spec Inv-loop μ-loop loop-holds sub-j sign-of-requires add-q returns loop-less loop-again returns-2)
+bits-bwd-spec =
+    tie.close
+    (tie.spec
+    Inv-loop
+    μ-loop
+    loop-holds
+    (λ c. search needs)
+    (λ c κs. search needs)
+    add-q
+    returns
+    (λ c. search needs)
+    loop-again
+    returns-2)

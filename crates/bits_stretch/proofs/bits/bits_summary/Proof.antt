@@ -20,28 +20,13 @@ abbrev μ-loop : tie.MeasureT-loop
 abbrev entry : tie.At-loop Inv-loop μ-loop → tie.Start Inv-loop μ-loop
 entry t = t .before .before
 
-bit-summary-requires : tie.Need-bit-summary-requires Inv-loop μ-loop
-bit-summary-requires c κs = search needs
-
-add-j : tie.Need-add-j Inv-loop μ-loop
-add-j c = search needs
-
 loop-holds : tie.Need-loop-holds Inv-loop μ-loop
 loop-holds c = let n : (c .before .args .from + 1) - c .before .args .from ≡ 1 = omega arith in (rw n (c .bit-summary .ensures), omega arith, omega arith)
-
-bit-summary-requires-2 : tie.Need-bit-summary-requires-2 Inv-loop μ-loop
-bit-summary-requires-2 c κs = search needs
 
 join-requires : tie.Need-join-requires Inv-loop μ-loop
 join-requires c κs =
     let l = c .before .before .loop in
-    (rw (l .inv .0) (summary-tame _ _ _ (omega arith)), rw (c .bit-summary2 .ensures) (summary-tame _ _ _ (omega arith)))
-
-add-j-2 : tie.Need-add-j-2 Inv-loop μ-loop
-add-j-2 c = search needs
-
-loop-less : tie.Need-loop-less Inv-loop μ-loop
-loop-less c = search needs
+    record { left = rw (l .inv .0) (summary-tame _ _ _ (omega arith)); right = rw (c .bit-summary2 .ensures) (summary-tame _ _ _ (omega arith)) }
 
 loop-again : tie.Need-loop-again Inv-loop μ-loop
 loop-again c =
@@ -57,4 +42,16 @@ returns c = let e : c .before .loop .j ≡ entry (c .before) .args .to = omega a
 
 pub bits-summary-spec : {M : Type 1} → statement M
 bits-summary-spec =
-    tie.close (tie.spec Inv-loop μ-loop bit-summary-requires add-j loop-holds bit-summary-requires-2 join-requires add-j-2 loop-less loop-again returns)
+    tie.close
+    (tie.spec
+    Inv-loop
+    μ-loop
+    (λ c κs. search needs)
+    (λ c. search needs)
+    loop-holds
+    (λ c κs. search needs)
+    join-requires
+    (λ c. search needs)
+    (λ c. search needs)
+    loop-again
+    returns)

@@ -4,9 +4,6 @@ use Rattle.row.proofs.Excess.{sign-close, sign-open}
 use Rattle.bits_stretch.proofs.bits.sign_of.Statement.{statement}
 use Rattle.bits_stretch.proofs.bits.sign_of.Tie as tie
 
-shr-if1 : tie.Need-shr-if1
-shr-if1 c = search needs
-
 returns : tie.Need-returns
 returns c = sign-close _ (c .if1 .taken)
 
@@ -14,4 +11,4 @@ returns-2 : tie.Need-returns-2
 returns-2 c = sign-open _ (c .if1 .left)
 
 pub sign-of-spec : {M : Type 1} → statement M
-sign-of-spec = tie.close (tie.spec shr-if1 returns returns-2)
+sign-of-spec = tie.close (tie.spec (λ c. search needs) returns returns-2)

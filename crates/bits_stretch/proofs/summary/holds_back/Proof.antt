@@ -14,9 +14,6 @@ use Rattle.bits_stretch.specs.Summary.{holdsBack}
 use Rattle.bits_stretch.proofs.summary.holds_back.Statement.{statement}
 use Rattle.bits_stretch.proofs.summary.holds_back.Tie as tie
 
-holds-requires : tie.Need-holds-requires
-holds-requires c κs = search needs
-
 returns : tie.Need-returns
 unfolding holdsBack
 returns c = let z : c .before .args .s ≡ pos 0 = bits-≡ (c .before .fits .s) (omega arith) (c .if1 .taken) in rw (eq-eqb _ _ (c .if1 .taken), eqZ-yes _ _ z)
@@ -26,4 +23,4 @@ unfolding holdsBack
 returns-2 c = rw (eqZ-no _ (pos 0) (λ z. c .before .if1 .left (ap (ofZ w64) z)), ← toZ-ofZ w64 _ (c .before .before .fits .s)) (c .holds .ensures)
 
 pub holds-back-spec : {M : Type 1} → statement M
-holds-back-spec = tie.close (tie.spec holds-requires returns returns-2)
+holds-back-spec = tie.close (tie.spec (λ c κs. search needs) returns returns-2)

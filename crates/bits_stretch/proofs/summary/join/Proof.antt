@@ -44,19 +44,13 @@ abbrev at-greatest : tie.After-struct-told6 → tie.Start
 at-greatest c = at-least (c .before .before .before .before)
 
 add-total : tie.Need-add-total
-add-total c = let s = at-total c in omega (zsum, fits (s .args .x) (s .pre .0), fits (s .args .y) (s .pre .1))
+add-total c = let s = at-total c in omega (zsum, fits (s .args .x) (s .pre .left), fits (s .args .y) (s .pre .right))
 
 add-least : tie.Need-add-least
-add-least c = let s = at-least c in omega (zsum, fits (s .args .x) (s .pre .0), fits (s .args .y) (s .pre .1))
+add-least c = let s = at-least c in omega (zsum, fits (s .args .x) (s .pre .left), fits (s .args .y) (s .pre .right))
 
 add-greatest : tie.Need-add-greatest
-add-greatest c = let s = at-greatest c in omega (zsum, fits (s .args .x) (s .pre .0), fits (s .args .y) (s .pre .1))
-
-lesser-requires : tie.Need-lesser-requires
-lesser-requires c κs = search needs
-
-greater-requires : tie.Need-greater-requires
-greater-requires c κs = search needs
+add-greatest c = let s = at-greatest c in omega (zsum, fits (s .args .x) (s .pre .left), fits (s .args .y) (s .pre .right))
 
 returns : tie.Need-returns
 unfolding joinOf
@@ -64,8 +58,8 @@ returns c =
     let s = at-greatest (c .before .before .before .before) in
     let x = s .args .x in
     let y = s .args .y in
-    let p = s .pre .0 in
-    let q = s .pre .1 in
+    let p = s .pre .left in
+    let q = s .pre .right in
     let low = c .before .before .lesser in
     let top = c .greater in
     let t = sum-back (x .total) (y .total) (p .total) (q .total) in
@@ -74,4 +68,4 @@ returns c =
     λ i. record { total = t i; least = l i; greatest = g i }
 
 pub join-spec : {M : Type 1} → statement M
-join-spec = tie.close (tie.spec add-total add-least add-greatest lesser-requires greater-requires returns)
+join-spec = tie.close (tie.spec add-total add-least add-greatest (λ c κs. search needs) (λ c κs. search needs) returns)

@@ -21,15 +21,6 @@ gate c =
 passed : (c : tie.After-enum-told) → gate (c .before .before) ≡ Pass
 passed c = sym (c .before .before .admit-node .ensures) ∙ c .enum-told .given .1
 
-admit-node-requires : tie.Need-admit-node-requires
-admit-node-requires c κs = search needs
-
-enum-known-k : tie.Need-enum-known-k
-enum-known-k c = search needs
-
-enum-told : tie.Need-enum-told
-enum-told c = search needs
-
 admit-handle-requires : tie.Need-admit-handle-requires
 admit-handle-requires c κs = passed-fine _ _ _ _ _ (passed c) .words
 
@@ -42,4 +33,12 @@ returns-2 : tie.Need-returns-2
 returns-2 c = rw (← then-then _ _ _, passed (c .before)) (c .admit-handle .ensures)
 
 pub admit-both-spec : {M : Type 1} → statement M
-admit-both-spec = tie.close (tie.spec admit-node-requires enum-known-k enum-told admit-handle-requires returns returns-2)
+admit-both-spec =
+    tie.close
+    (tie.spec
+    (λ c κs. search needs)
+    (λ c. search needs)
+    (λ c. search needs)
+    admit-handle-requires
+    returns
+    returns-2)

@@ -22,15 +22,6 @@ gate c =
 passed : (c : tie.After-enum-told) → gate (c .before .before) ≡ Pass
 passed c = sym (c .before .before .admit-both .ensures) ∙ c .enum-told .given .1
 
-admit-both-requires : tie.Need-admit-both-requires
-admit-both-requires c κs = search needs
-
-enum-known-k : tie.Need-enum-known-k
-enum-known-k c = search needs
-
-enum-told : tie.Need-enum-told
-enum-told c = search needs
-
 spans-requires : tie.Need-spans-requires
 spans-requires c κs = passed-fine _ _ _ _ _ (passed c)
 
@@ -43,4 +34,4 @@ returns-2 : tie.Need-returns-2
 returns-2 c = two-passed _ _ _ _ _ _ _ (passed (c .before)) (c .spans .ensures)
 
 pub is-ancestor-spec : {M : Type 1} → statement M
-is-ancestor-spec = tie.close (tie.spec admit-both-requires enum-known-k enum-told spans-requires returns returns-2)
+is-ancestor-spec = tie.close (tie.spec (λ c κs. search needs) (λ c. search needs) (λ c. search needs) spans-requires returns returns-2)

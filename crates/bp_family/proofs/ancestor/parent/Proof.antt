@@ -18,15 +18,6 @@ gate c = let a = c .before .before .args in nodeGate (a .words .now) (a .n) (a .
 passed : (c : tie.After-enum-told) → gate (c .before .before) ≡ Pass
 passed c = sym (c .before .before .admit-node .ensures) ∙ c .enum-told .given .1
 
-admit-node-requires : tie.Need-admit-node-requires
-admit-node-requires c κs = search needs
-
-enum-known-k : tie.Need-enum-known-k
-enum-known-k c = search needs
-
-enum-told : tie.Need-enum-told
-enum-told c = search needs
-
 walk-bwd-requires : tie.Need-walk-bwd-requires
 walk-bwd-requires c κs = passed-fine _ _ _ _ _ (passed c)
 
@@ -41,4 +32,4 @@ returns-2 c =
     node-passed _ _ _ _ _ parent _ g (c .walk-bwd .ensures ∙ parent-is _ _ _ _ (handle-opens _ _ _ (passed-handle _ _ _ _ _ g)))
 
 pub parent-spec : {M : Type 1} → statement M
-parent-spec = tie.close (tie.spec admit-node-requires enum-known-k enum-told walk-bwd-requires returns returns-2)
+parent-spec = tie.close (tie.spec (λ c κs. search needs) (λ c. search needs) (λ c. search needs) walk-bwd-requires returns returns-2)

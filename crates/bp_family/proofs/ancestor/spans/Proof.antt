@@ -7,21 +7,6 @@ use Rattle.bp_family.proofs.Ancestors.{ancestor-at, ancestor-nothing, a
 use Rattle.bp_family.proofs.ancestor.spans.Statement.{statement}
 use Rattle.bp_family.proofs.ancestor.spans.Tie as tie
 
-walk-fwd-requires : tie.Need-walk-fwd-requires
-walk-fwd-requires c κs = search needs
-
-enum-known-c : tie.Need-enum-known-c
-enum-known-c c = search needs
-
-within-requires : tie.Need-within-requires
-within-requires c κs = search needs
-
-enum-told : tie.Need-enum-told
-enum-told c = search needs
-
-enum-known-k : tie.Need-enum-known-k
-enum-known-k c = search needs
-
 returns : tie.Need-returns
 returns c =
     let e = c .before .before in
@@ -36,4 +21,12 @@ returns-3 c = ancestor-refused _ _ _ _ _ _ (said (c .before .before .before .wal
 pub spans-spec : {M : Type 1} → statement M
 spans-spec =
     tie.close
-    (tie.spec walk-fwd-requires enum-known-c within-requires enum-told enum-known-k returns returns-2 returns-3)
+    (tie.spec
+    (λ c κs. search needs)
+    (λ c. search needs)
+    (λ c κs. search needs)
+    (λ c. search needs)
+    (λ c. search needs)
+    returns
+    returns-2
+    returns-3)

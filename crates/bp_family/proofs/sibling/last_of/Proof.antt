@@ -25,24 +25,12 @@ entry c = c .before .before .before
 abbrev walked : tie.After-known-told → tie.After-walk-fwd
 walked c = c .before .before .before
 
-add-is-open : tie.Need-add-is-open
-add-is-open c = search needs
-
-is-open-requires : tie.Need-is-open-requires
-is-open-requires c κs = search needs
-
 returns : tie.Need-returns
 returns c = last-bare _ _ _ _ (sym (c .before .is-open .ensures) ∙ not-true _ (c .if1 .taken))
 
 -- In this branch v has a child.
 child : (c : tie.Else1) → (let a = entry c .args in opens (a .words .now) (a .n) (a .v + 1) ≡ true)
 child c = sym (c .before .is-open .ensures) ∙ not-false _ (c .if1 .left)
-
-walk-fwd-requires : tie.Need-walk-fwd-requires
-walk-fwd-requires c κs = search needs
-
-enum-known-c : tie.Need-enum-known-c
-enum-known-c c = search needs
 
 -- The close of v is at a position after v.
 closes : (c : tie.After-known-told) → (let a = entry (walked c .before) .args in
@@ -53,19 +41,10 @@ past : (c : tie.After-known-told) → (let a = entry (walked c .before) .args in
 past c =
     let s = entry (walked c .before) in
     let a = s .args in
-    walk-after (a .words .now) (a .n) (a .nodes .now) (a .block) (omega (arith, s .pre .0 .eight)) (a .v) (negsuc 0) _ (closes c) .0
+    walk-after (a .words .now) (a .n) (a .nodes .now) (a .block) (omega (arith, s .pre .fine .eight)) (a .v) (negsuc 0) _ (closes c) .0
 
 sub-walk-bwd : tie.Need-sub-walk-bwd
 sub-walk-bwd c = omega (arith, past c)
-
-walk-bwd-requires : tie.Need-walk-bwd-requires
-walk-bwd-requires c κs = search needs
-
-enum-told : tie.Need-enum-told
-enum-told c = search needs
-
-enum-known-k : tie.Need-enum-known-k
-enum-known-k c = search needs
 
 returns-2 : tie.Need-returns-2
 returns-2 c =
@@ -86,15 +65,15 @@ pub last-of-spec : {M : Type 1} → statement M
 last-of-spec =
     tie.close
     (tie.spec
-    add-is-open
-    is-open-requires
+    (λ c. search needs)
+    (λ c κs. search needs)
     returns
-    walk-fwd-requires
-    enum-known-c
+    (λ c κs. search needs)
+    (λ c. search needs)
     sub-walk-bwd
-    walk-bwd-requires
-    enum-told
-    enum-known-k
+    (λ c κs. search needs)
+    (λ c. search needs)
+    (λ c. search needs)
     returns-2
     returns-3
     returns-4)

@@ -21,12 +21,6 @@ walked c = c .before .before .before
 abbrev entry : tie.After-walk-fwd → tie.Start
 entry c = c .before .before
 
-walk-fwd-requires : tie.Need-walk-fwd-requires
-walk-fwd-requires c κs = search needs
-
-enum-known-c : tie.Need-enum-known-c
-enum-known-c c = search needs
-
 -- The close of v is a position below n.
 closes : (c : tie.After-known-told) → (let a = entry (walked c) .args in
     walk forward (a .words .now) (a .n) (a .nodes .now) (a .block) (a .v) (negsuc 0) .answer ≡ at (c .before .c .given .0 .0))
@@ -41,12 +35,6 @@ inside c =
 handle-after-requires : tie.Need-handle-after-requires
 handle-after-requires c κs = (entry (walked c) .pre .words, inside c)
 
-enum-told : tie.Need-enum-told
-enum-told c = search needs
-
-enum-known-k : tie.Need-enum-known-k
-enum-known-k c = search needs
-
 returns : tie.Need-returns
 returns c = c .handle-after .ensures ∙ next-at _ _ _ _ _ (closes (c .before))
 
@@ -59,4 +47,12 @@ returns-3 c = next-refused _ _ _ _ _ (said (c .before .before .before .walk-fwd 
 pub next-of-spec : {M : Type 1} → statement M
 next-of-spec =
     tie.close
-    (tie.spec walk-fwd-requires enum-known-c handle-after-requires enum-told enum-known-k returns returns-2 returns-3)
+    (tie.spec
+    (λ c κs. search needs)
+    (λ c. search needs)
+    handle-after-requires
+    (λ c. search needs)
+    (λ c. search needs)
+    returns
+    returns-2
+    returns-3)

@@ -16,15 +16,6 @@ gate c = let a = c .before .before .args in nodeGate (a .words .now) (a .n) (a .
 passed : (c : tie.After-enum-told) → gate (c .before .before) ≡ Pass
 passed c = sym (c .before .before .admit-node .ensures) ∙ c .enum-told .given .1
 
-admit-node-requires : tie.Need-admit-node-requires
-admit-node-requires c κs = search needs
-
-enum-known-k : tie.Need-enum-known-k
-enum-known-k c = search needs
-
-enum-told : tie.Need-enum-told
-enum-told c = search needs
-
 next-of-requires : tie.Need-next-of-requires
 next-of-requires c κs = passed-fine _ _ _ _ _ (passed c)
 
@@ -37,4 +28,4 @@ returns-2 : tie.Need-returns-2
 returns-2 c = node-passed _ _ _ _ _ nextSibling _ (passed (c .before)) (c .next-of .ensures)
 
 pub next-sibling-spec : {M : Type 1} → statement M
-next-sibling-spec = tie.close (tie.spec admit-node-requires enum-known-k enum-told next-of-requires returns returns-2)
+next-sibling-spec = tie.close (tie.spec (λ c κs. search needs) (λ c. search needs) (λ c. search needs) next-of-requires returns returns-2)

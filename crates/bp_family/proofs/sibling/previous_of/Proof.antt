@@ -11,20 +11,8 @@ use Rattle.bp_family.proofs.sibling.previous_of.Tie as tie
 returns : tie.Need-returns
 returns c = previous-first _ _ _ _ (omega arith)
 
-sub-opens-at : tie.Need-sub-opens-at
-sub-opens-at c = search needs
-
-opens-at-requires : tie.Need-opens-at-requires
-opens-at-requires c κs = search needs
-
 returns-2 : tie.Need-returns-2
 returns-2 c = previous-none _ _ _ _ (omega arith) (closes-not _ _ _ (omega arith) (sym (c .before .opens-at .ensures) ∙ c .if2 .taken))
-
-sub-walk-bwd : tie.Need-sub-walk-bwd
-sub-walk-bwd c = search needs
-
-walk-bwd-requires : tie.Need-walk-bwd-requires
-walk-bwd-requires c κs = search needs
 
 returns-3 : tie.Need-returns-3
 returns-3 c =
@@ -35,4 +23,4 @@ returns-3 c =
 pub previous-of-spec : {M : Type 1} → statement M
 previous-of-spec =
     tie.close
-    (tie.spec returns sub-opens-at opens-at-requires returns-2 sub-walk-bwd walk-bwd-requires returns-3)
+    (tie.spec returns (λ c. search needs) (λ c κs. search needs) returns-2 (λ c. search needs) (λ c κs. search needs) returns-3)

@@ -16,15 +16,6 @@ gate c = let a = c .before .before .args in bare (a .words .now) (a .n) (a .v)
 passed : (c : tie.After-enum-told) → gate (c .before .before) ≡ Pass
 passed c = sym (c .before .before .admit-handle .ensures) ∙ c .enum-told .given .1
 
-admit-handle-requires : tie.Need-admit-handle-requires
-admit-handle-requires c κs = search needs
-
-enum-known-k : tie.Need-enum-known-k
-enum-known-k c = search needs
-
-enum-told : tie.Need-enum-told
-enum-told c = search needs
-
 handle-after-requires : tie.Need-handle-after-requires
 handle-after-requires c κs = bare-facts _ _ _ _ (passed c)
 
@@ -38,4 +29,12 @@ unfolding firstChild
 returns-2 c = bare-passed _ _ _ firstChild _ (passed (c .before)) (c .handle-after .ensures)
 
 pub first-child-spec : {M : Type 1} → statement M
-first-child-spec = tie.close (tie.spec admit-handle-requires enum-known-k enum-told handle-after-requires returns returns-2)
+first-child-spec =
+    tie.close
+    (tie.spec
+    (λ c κs. search needs)
+    (λ c. search needs)
+    (λ c. search needs)
+    handle-after-requires
+    returns
+    returns-2)

@@ -6,12 +6,6 @@ use Rattle.bp_handle.proofs.RowAnswers.{handle-yes, handle-no}
 use Rattle.bp_handle.proofs.bare.handle_after.Statement.{statement}
 use Rattle.bp_handle.proofs.bare.handle_after.Tie as tie
 
-add-i : tie.Need-add-i
-add-i c = search needs
-
-is-open-requires : tie.Need-is-open-requires
-is-open-requires c κs = search needs
-
 returns : tie.Need-returns
 returns c = handle-yes _ _ _ (sym (c .before .is-open .ensures) ∙ c .if1 .taken)
 
@@ -19,4 +13,4 @@ returns-2 : tie.Need-returns-2
 returns-2 c = handle-no _ _ _ (sym (c .before .is-open .ensures) ∙ c .if1 .left)
 
 pub handle-after-spec : {M : Type 1} → statement M
-handle-after-spec = tie.close (tie.spec add-i is-open-requires returns returns-2)
+handle-after-spec = tie.close (tie.spec (λ c. search needs) (λ c κs. search needs) returns returns-2)

@@ -16,15 +16,6 @@ gate c = let a = c .before .before .args in bare (a .words .now) (a .n) (a .v)
 passed : (c : tie.After-enum-told) → gate (c .before .before) ≡ Pass
 passed c = sym (c .before .before .admit-handle .ensures) ∙ c .enum-told .given .1
 
-admit-handle-requires : tie.Need-admit-handle-requires
-admit-handle-requires c κs = search needs
-
-enum-known-k : tie.Need-enum-known-k
-enum-known-k c = search needs
-
-enum-told : tie.Need-enum-told
-enum-told c = search needs
-
 leaf-at-requires : tie.Need-leaf-at-requires
 leaf-at-requires c κs = bare-facts _ _ _ _ (passed c)
 
@@ -37,4 +28,4 @@ returns-2 : tie.Need-returns-2
 returns-2 c = bare-passed _ _ _ isLeaf _ (passed (c .before)) (c .leaf-at .ensures)
 
 pub is-leaf-spec : {M : Type 1} → statement M
-is-leaf-spec = tie.close (tie.spec admit-handle-requires enum-known-k enum-told leaf-at-requires returns returns-2)
+is-leaf-spec = tie.close (tie.spec (λ c κs. search needs) (λ c. search needs) (λ c. search needs) leaf-at-requires returns returns-2)

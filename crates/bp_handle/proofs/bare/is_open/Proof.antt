@@ -7,9 +7,6 @@ use Rattle.bp_handle.proofs.RowAnswers.{opens-past, opens-in}
 use Rattle.bp_handle.proofs.bare.is_open.Statement.{statement}
 use Rattle.bp_handle.proofs.bare.is_open.Tie as tie
 
-opens-at-requires : tie.Need-opens-at-requires
-opens-at-requires c κs = search needs
-
 returns : tie.Need-returns
 returns c = opens-past _ _ _ (c .if1 .taken)
 
@@ -17,4 +14,4 @@ returns-2 : tie.Need-returns-2
 returns-2 c = c .opens-at .ensures ∙ opens-in _ _ _ (omega arith)
 
 pub is-open-spec : {M : Type 1} → statement M
-is-open-spec = tie.close (tie.spec opens-at-requires returns returns-2)
+is-open-spec = tie.close (tie.spec (λ c κs. search needs) returns returns-2)

@@ -7,14 +7,8 @@ use Rattle.bp_handle.proofs.RowAnswers.{closes-past, closes-not, closes
 use Rattle.bp_handle.proofs.bare.leaf_at.Statement.{statement}
 use Rattle.bp_handle.proofs.bare.leaf_at.Tie as tie
 
-add-i : tie.Need-add-i
-add-i c = search needs
-
 returns : tie.Need-returns
 returns c = leaf-no _ _ _ (closes-past _ _ _ (c .if1 .taken))
-
-opens-at-requires : tie.Need-opens-at-requires
-opens-at-requires c κs = search needs
 
 returns-2 : tie.Need-returns-2
 returns-2 c = leaf-no _ _ _ (closes-not _ _ _ (omega arith) (sym (c .before .opens-at .ensures) ∙ c .if2 .taken))
@@ -23,4 +17,4 @@ returns-3 : tie.Need-returns-3
 returns-3 c = leaf-yes _ _ _ (closes-in _ _ _ (omega arith) (sym (c .before .opens-at .ensures) ∙ c .if2 .left))
 
 pub leaf-at-spec : {M : Type 1} → statement M
-leaf-at-spec = tie.close (tie.spec add-i returns opens-at-requires returns-2 returns-3)
+leaf-at-spec = tie.close (tie.spec (λ c. search needs) returns (λ c κs. search needs) returns-2 returns-3)

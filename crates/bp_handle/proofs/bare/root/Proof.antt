@@ -13,15 +13,6 @@ use Rattle.bp_handle.proofs.bare.root.Tie as tie
 passed : (c : tie.After-enum-told) → let a = c .before .before .before .before .args in rowGate (length (a .words .now)) (a .n) ≡ Pass
 passed c = sym (c .before .before .admit-row .ensures) ∙ c .enum-told .given .1
 
-admit-row-requires : tie.Need-admit-row-requires
-admit-row-requires c κs = search needs
-
-enum-known-k : tie.Need-enum-known-k
-enum-known-k c = search needs
-
-enum-told : tie.Need-enum-told
-enum-told c = search needs
-
 returns : tie.Need-returns
 returns c = let e = sym (c .before .before .before .admit-row .ensures) ∙ c .before .k .given .1 in rw e
 
@@ -32,4 +23,4 @@ returns-3 : tie.Need-returns-3
 returns-3 c = rw (passed (c .before)) (root-none _ (c .if1 .left))
 
 pub root-spec : {M : Type 1} → statement M
-root-spec = tie.close (tie.spec admit-row-requires enum-known-k enum-told returns returns-2 returns-3)
+root-spec = tie.close (tie.spec (λ c κs. search needs) (λ c. search needs) (λ c. search needs) returns returns-2 returns-3)

@@ -13,15 +13,6 @@ use Rattle.bp_handle.proofs.gate.admit_handle.Tie as tie
 passed : (c : tie.After-enum-told) → let a = c .before .before .before .before .args in rowGate (length (a .words .now)) (a .n) ≡ Pass
 passed c = sym (c .before .before .admit-row .ensures) ∙ c .enum-told .given .1
 
-admit-row-requires : tie.Need-admit-row-requires
-admit-row-requires c κs = search needs
-
-enum-known-k : tie.Need-enum-known-k
-enum-known-k c = search needs
-
-enum-told : tie.Need-enum-told
-enum-told c = search needs
-
 admit-handle-requires : tie.Need-admit-handle-requires
 admit-handle-requires c κs = row-fits _ _ (passed c) .1
 
@@ -32,4 +23,12 @@ returns-2 : tie.Need-returns-2
 returns-2 c = rw (passed (c .before)) (c .admit-handle .ensures)
 
 pub admit-handle-spec : {M : Type 1} → statement M
-admit-handle-spec = tie.close (tie.spec admit-row-requires enum-known-k enum-told admit-handle-requires returns returns-2)
+admit-handle-spec =
+    tie.close
+    (tie.spec
+    (λ c κs. search needs)
+    (λ c. search needs)
+    (λ c. search needs)
+    admit-handle-requires
+    returns
+    returns-2)

@@ -23,17 +23,11 @@ returns c = leftmost-none _ _ _ _ _ (c .if1 .taken)
 returns-2 : tie.Need-returns-2
 returns-2 c = leftmost-root _ _ _ _ _ (omega arith) (c .if2 .taken)
 
-too-far-requires : tie.Need-too-far-requires
-too-far-requires c κs = search needs
-
 returns-3 : tie.Need-returns-3
 returns-3 c = leftmost-far _ _ _ _ _ (c .before .before .if2 .left) (told-far (c .before .too-far .ensures) (c .if3 .taken))
 
 cast-walk-fwd : tie.Need-cast-walk-fwd
 cast-walk-fwd c = level-fits _ _ (entry (c .before .before) .pre .short) (near c)
-
-walk-fwd-requires : tie.Need-walk-fwd-requires
-walk-fwd-requires c κs = search needs
 
 returns-4 : tie.Need-returns-4
 returns-4 c =
@@ -43,4 +37,4 @@ returns-4 c =
 pub leftmost-at-spec : {M : Type 1} → statement M
 leftmost-at-spec =
     tie.close
-    (tie.spec returns returns-2 too-far-requires returns-3 cast-walk-fwd walk-fwd-requires returns-4)
+    (tie.spec returns returns-2 (λ c κs. search needs) returns-3 cast-walk-fwd (λ c κs. search needs) returns-4)

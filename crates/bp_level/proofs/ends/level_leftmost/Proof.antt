@@ -16,15 +16,6 @@ passed : (c : tie.After-enum-told) → (let a = c .before .before .before .befor
     nodesGate (length (a .words .now)) (a .n) (length (a .nodes .now)) (a .block) ≡ Pass)
 passed c = sym (c .before .before .admit .ensures) ∙ c .enum-told .given .1
 
-admit-requires : tie.Need-admit-requires
-admit-requires c κs = search needs
-
-enum-known-e : tie.Need-enum-known-e
-enum-known-e c = search needs
-
-enum-told : tie.Need-enum-told
-enum-told c = search needs
-
 leftmost-at-requires : tie.Need-leftmost-at-requires
 leftmost-at-requires c κs = gate-fine _ _ _ _ (passed c)
 
@@ -35,4 +26,12 @@ returns-2 : tie.Need-returns-2
 returns-2 c = level-passed _ _ _ _ levelLeftmost _ _ (passed (c .before)) (c .leftmost-at .ensures)
 
 pub level-leftmost-spec : {M : Type 1} → statement M
-level-leftmost-spec = tie.close (tie.spec admit-requires enum-known-e enum-told leftmost-at-requires returns returns-2)
+level-leftmost-spec =
+    tie.close
+    (tie.spec
+    (λ c κs. search needs)
+    (λ c. search needs)
+    (λ c. search needs)
+    leftmost-at-requires
+    returns
+    returns-2)

@@ -15,15 +15,6 @@ passed : (c : tie.After-enum-told) → (let a = c .before .before .before .befor
     nodesGate (length (a .words .now)) (a .n) (length (a .nodes .now)) (a .block) ≡ Pass)
 passed c = sym (c .before .before .admit .ensures) ∙ c .enum-told .given .1
 
-admit-requires : tie.Need-admit-requires
-admit-requires c κs = search needs
-
-enum-known-e : tie.Need-enum-known-e
-enum-known-e c = search needs
-
-enum-told : tie.Need-enum-told
-enum-told c = search needs
-
 rightmost-at-requires : tie.Need-rightmost-at-requires
 rightmost-at-requires c κs = gate-fine _ _ _ _ (passed c)
 
@@ -34,4 +25,12 @@ returns-2 : tie.Need-returns-2
 returns-2 c = rightmost-passed _ _ _ _ _ _ (passed (c .before)) (c .rightmost-at .ensures)
 
 pub level-rightmost-spec : {M : Type 1} → statement M
-level-rightmost-spec = tie.close (tie.spec admit-requires enum-known-e enum-told rightmost-at-requires returns returns-2)
+level-rightmost-spec =
+    tie.close
+    (tie.spec
+    (λ c κs. search needs)
+    (λ c. search needs)
+    (λ c. search needs)
+    rightmost-at-requires
+    returns
+    returns-2)

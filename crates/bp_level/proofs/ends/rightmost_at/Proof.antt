@@ -18,9 +18,6 @@ entry c = c .before .before .before
 near : (c : tie.Else1) → (let a = entry c .args in a .k ≤ a .n)
 near c = told-near (c .before .too-far .ensures) (c .if1 .left)
 
-too-far-requires : tie.Need-too-far-requires
-too-far-requires c κs = search needs
-
 returns : tie.Need-returns
 returns c = rightmost-far _ _ _ _ _ _ (told-far (c .before .too-far .ensures) (c .if1 .taken))
 
@@ -28,22 +25,10 @@ root-start-requires : tie.Need-root-start-requires
 root-start-requires c κs =
     let s = entry c in
     let f = s .pre in
-    (f .short, λ h. omega (arith, f .nodes, root-there (s .args .n) (s .args .block) (omega (arith, f .eight)) h))
-
-enum-known-i : tie.Need-enum-known-i
-enum-known-i c = search needs
+    record { short = f .short; root = λ h. omega (arith, f .nodes, root-there (s .args .n) (s .args .block) (omega (arith, f .eight)) h) }
 
 cast-open-before : tie.Need-cast-open-before
 cast-open-before c = let e = c .before .before .before .before in level-fits _ _ (entry e .pre .short) (near e)
-
-open-before-requires : tie.Need-open-before-requires
-open-before-requires c κs = search needs
-
-enum-told : tie.Need-enum-told
-enum-told c = search needs
-
-enum-known-e : tie.Need-enum-known-e
-enum-known-e c = search needs
 
 returns-2 : tie.Need-returns-2
 returns-2 c =
@@ -70,14 +55,14 @@ pub rightmost-at-spec : {M : Type 1} → statement M
 rightmost-at-spec =
     tie.close
     (tie.spec
-    too-far-requires
+    (λ c κs. search needs)
     returns
     root-start-requires
-    enum-known-i
+    (λ c. search needs)
     cast-open-before
-    open-before-requires
-    enum-told
-    enum-known-e
+    (λ c κs. search needs)
+    (λ c. search needs)
+    (λ c. search needs)
     returns-2
     returns-3
     returns-4)

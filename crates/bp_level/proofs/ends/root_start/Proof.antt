@@ -22,18 +22,12 @@ returns : tie.Need-returns
 returns c = start-none _ _ (c .if1 .taken)
 
 examine-requires : tie.Need-examine-requires
-examine-requires c κs = let z = c .if1 .left in c .before .pre .1 (omega arith)
-
-enum-known-x : tie.Need-enum-known-x
-enum-known-x c = search needs
+examine-requires c κs = let z = c .if1 .left in c .before .pre .root (omega arith)
 
 start-by-requires : tie.Need-start-by-requires
 start-by-requires c κs =
     let g = c .before .before in
-    rw (total-back (root g) (look g)) (g .before .before .before .before .pre .0, fits-size (root g) (look g .0))
-
-enum-told : tie.Need-enum-told
-enum-told c = search needs
+    rw (total-back (root g) (look g)) (record { short = g .before .before .before .before .pre .short; near = fits-size (root g) (look g .0) })
 
 returns-2 : tie.Need-returns-2
 returns-2 c =
@@ -51,4 +45,4 @@ returns-3 c =
 pub root-start-spec : {M : Type 1} → statement M
 root-start-spec =
     tie.close
-    (tie.spec returns examine-requires enum-known-x start-by-requires enum-told returns-2 returns-3)
+    (tie.spec returns examine-requires (λ c. search needs) start-by-requires (λ c. search needs) returns-2 returns-3)

@@ -5,26 +5,23 @@ use Rattle.bp_spec.proofs.RightmostStart.{sum-fits, start-fits, row-below, row-
 use Rattle.bp_level.proofs.ends.start_by.Statement.{statement}
 use Rattle.bp_level.proofs.ends.start_by.Tie as tie
 
-cast-i : tie.Need-cast-i
-cast-i c = search needs
-
 add-i : tie.Need-add-i
-add-i c = sum-fits (c .args .n) (c .args .total) (c .pre .0) (c .pre .1)
+add-i c = sum-fits (c .args .n) (c .args .total) (c .pre .short) (c .pre .near)
 
 sub-i : tie.Need-sub-i
-sub-i c = start-fits (c .args .n) (c .args .total) (c .pre .0) (c .pre .1)
+sub-i c = start-fits (c .args .n) (c .args .total) (c .pre .short) (c .pre .near)
 
 returns : tie.Need-returns
-returns c = let s = c .before in row-below (s .args .n) (s .args .total) (s .pre .0) (s .pre .1) (c .if1 .taken)
+returns c = let s = c .before in row-below (s .args .n) (s .args .total) (s .pre .short) (s .pre .near) (c .if1 .taken)
 
 cast-start : tie.Need-cast-start
-cast-start c = let s = c .before in row-cast (s .args .n) (s .args .total) (s .pre .0) (s .pre .1) (c .if1 .left)
+cast-start c = let s = c .before in row-cast (s .args .n) (s .args .total) (s .pre .short) (s .pre .near) (c .if1 .left)
 
 returns-2 : tie.Need-returns-2
-returns-2 c = let s = c .before .before in row-in (s .args .n) (s .args .total) (s .pre .0) (s .pre .1) (c .before .if1 .left) (c .if2 .taken)
+returns-2 c = let s = c .before .before in row-in (s .args .n) (s .args .total) (s .pre .short) (s .pre .near) (c .before .if1 .left) (c .if2 .taken)
 
 returns-3 : tie.Need-returns-3
-returns-3 c = let s = c .before .before in row-past (s .args .n) (s .args .total) (s .pre .0) (s .pre .1) (c .before .if1 .left) (c .if2 .left)
+returns-3 c = let s = c .before .before in row-past (s .args .n) (s .args .total) (s .pre .short) (s .pre .near) (c .before .if1 .left) (c .if2 .left)
 
 pub start-by-spec : {M : Type 1} → statement M
-start-by-spec = tie.close (tie.spec cast-i add-i sub-i returns cast-start returns-2 returns-3)
+start-by-spec = tie.close (tie.spec (λ c. search needs) add-i sub-i returns cast-start returns-2 returns-3)

@@ -18,9 +18,6 @@ near c = told-near (c .before .too-far .ensures) (c .if2 .left)
 returns : tie.Need-returns
 returns c = ancestor-self _ _ _ _ _ _ (c .if1 .taken)
 
-too-far-requires : tie.Need-too-far-requires
-too-far-requires c κs = search needs
-
 returns-2 : tie.Need-returns-2
 returns-2 c = ancestor-far _ _ _ _ _ _ (c .before .before .if1 .left) (told-far (c .before .too-far .ensures) (c .if2 .taken))
 
@@ -30,9 +27,6 @@ cast-walk-bwd c = level-fits _ _ (entry c .pre .short) (near c)
 sub-walk-bwd : tie.Need-sub-walk-bwd
 sub-walk-bwd c = less-fits _ _ (entry c .pre .short) (near c)
 
-walk-bwd-requires : tie.Need-walk-bwd-requires
-walk-bwd-requires c κs = search needs
-
 returns-3 : tie.Need-returns-3
 returns-3 c =
     let e = c .before in
@@ -41,4 +35,4 @@ returns-3 c =
 pub ancestor-at-spec : {M : Type 1} → statement M
 ancestor-at-spec =
     tie.close
-    (tie.spec returns too-far-requires returns-2 cast-walk-bwd sub-walk-bwd walk-bwd-requires returns-3)
+    (tie.spec returns (λ c κs. search needs) returns-2 cast-walk-bwd sub-walk-bwd (λ c κs. search needs) returns-3)

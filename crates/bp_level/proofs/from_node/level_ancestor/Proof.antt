@@ -17,15 +17,6 @@ passed : (c : tie.After-enum-told) → (let a = entry (c .before .before) .args 
     nodeGate (a .words .now) (a .n) (a .nodes .now) (a .block) (a .v) ≡ Pass)
 passed c = sym (c .before .before .admit-node .ensures) ∙ c .enum-told .given .1
 
-admit-node-requires : tie.Need-admit-node-requires
-admit-node-requires c κs = search needs
-
-enum-known-e : tie.Need-enum-known-e
-enum-known-e c = search needs
-
-enum-told : tie.Need-enum-told
-enum-told c = search needs
-
 ancestor-at-requires : tie.Need-ancestor-at-requires
 ancestor-at-requires c κs = passed-fine _ _ _ _ _ (passed c)
 
@@ -40,4 +31,12 @@ returns-2 c =
     node-passed _ _ _ _ _ (levelAncestor (entry g .args .k)) _ (passed (c .before)) (c .ancestor-at .ensures)
 
 pub level-ancestor-spec : {M : Type 1} → statement M
-level-ancestor-spec = tie.close (tie.spec admit-node-requires enum-known-e enum-told ancestor-at-requires returns returns-2)
+level-ancestor-spec =
+    tie.close
+    (tie.spec
+    (λ c κs. search needs)
+    (λ c. search needs)
+    (λ c. search needs)
+    ancestor-at-requires
+    returns
+    returns-2)

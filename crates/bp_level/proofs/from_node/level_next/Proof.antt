@@ -13,15 +13,6 @@ passed : (c : tie.After-enum-told) → (let a = c .before .before .before .befor
     nodeGate (a .words .now) (a .n) (a .nodes .now) (a .block) (a .v) ≡ Pass)
 passed c = sym (c .before .before .admit-node .ensures) ∙ c .enum-told .given .1
 
-admit-node-requires : tie.Need-admit-node-requires
-admit-node-requires c κs = search needs
-
-enum-known-e : tie.Need-enum-known-e
-enum-known-e c = search needs
-
-enum-told : tie.Need-enum-told
-enum-told c = search needs
-
 next-of-requires : tie.Need-next-of-requires
 next-of-requires c κs = passed-fine _ _ _ _ _ (passed c)
 
@@ -34,4 +25,4 @@ returns-2 : tie.Need-returns-2
 returns-2 c = node-passed _ _ _ _ _ levelNext _ (passed (c .before)) (c .next-of .ensures)
 
 pub level-next-spec : {M : Type 1} → statement M
-level-next-spec = tie.close (tie.spec admit-node-requires enum-known-e enum-told next-of-requires returns returns-2)
+level-next-spec = tie.close (tie.spec (λ c κs. search needs) (λ c. search needs) (λ c. search needs) next-of-requires returns returns-2)

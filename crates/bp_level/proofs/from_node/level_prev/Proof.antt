@@ -14,15 +14,6 @@ passed : (c : tie.After-enum-told) → (let a = c .before .before .before .befor
     nodeGate (a .words .now) (a .n) (a .nodes .now) (a .block) (a .v) ≡ Pass)
 passed c = sym (c .before .before .admit-node .ensures) ∙ c .enum-told .given .1
 
-admit-node-requires : tie.Need-admit-node-requires
-admit-node-requires c κs = search needs
-
-enum-known-e : tie.Need-enum-known-e
-enum-known-e c = search needs
-
-enum-told : tie.Need-enum-told
-enum-told c = search needs
-
 open-before-requires : tie.Need-open-before-requires
 open-before-requires c κs = passed-fine _ _ _ _ _ (passed c)
 
@@ -35,4 +26,4 @@ returns-2 : tie.Need-returns-2
 returns-2 c = node-passed _ _ _ _ _ levelPrev _ (passed (c .before)) (c .open-before .ensures ∙ sym (prev-is _ _ _ _))
 
 pub level-prev-spec : {M : Type 1} → statement M
-level-prev-spec = tie.close (tie.spec admit-node-requires enum-known-e enum-told open-before-requires returns returns-2)
+level-prev-spec = tie.close (tie.spec (λ c κs. search needs) (λ c. search needs) (λ c. search needs) open-before-requires returns returns-2)

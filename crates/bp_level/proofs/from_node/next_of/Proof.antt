@@ -6,21 +6,6 @@ use Rattle.bp_level.proofs.NodeLevels.{on-at, on-nothing, on-refused, n
 use Rattle.bp_level.proofs.from_node.next_of.Statement.{statement}
 use Rattle.bp_level.proofs.from_node.next_of.Tie as tie
 
-walk-fwd-requires : tie.Need-walk-fwd-requires
-walk-fwd-requires c κs = search needs
-
-enum-known-c : tie.Need-enum-known-c
-enum-known-c c = search needs
-
-walk-fwd-requires-2 : tie.Need-walk-fwd-requires-2
-walk-fwd-requires-2 c κs = search needs
-
-enum-told : tie.Need-enum-told
-enum-told c = search needs
-
-enum-known-e : tie.Need-enum-known-e
-enum-known-e c = search needs
-
 returns : tie.Need-returns
 returns c =
     let g = c .before .before in
@@ -37,4 +22,12 @@ returns-3 c =
 pub next-of-spec : {M : Type 1} → statement M
 next-of-spec =
     tie.close
-    (tie.spec walk-fwd-requires enum-known-c walk-fwd-requires-2 enum-told enum-known-e returns returns-2 returns-3)
+    (tie.spec
+    (λ c κs. search needs)
+    (λ c. search needs)
+    (λ c κs. search needs)
+    (λ c. search needs)
+    (λ c. search needs)
+    returns
+    returns-2
+    returns-3)

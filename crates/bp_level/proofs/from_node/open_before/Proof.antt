@@ -16,21 +16,6 @@ first : (c : tie.After-walk-bwd) → (let a = c .before .before .args in
     paperFound (c .walk-bwd .result) ≡ walk backward (a .words .now) (a .n) (a .nodes .now) (a .block) (a .i) (a .r) .answer)
 first c = rw (toZ-ofZ w64 _ (c .before .before .fits .r)) at (c .walk-bwd .ensures)
 
-walk-bwd-requires : tie.Need-walk-bwd-requires
-walk-bwd-requires c κs = search needs
-
-enum-known-c : tie.Need-enum-known-c
-enum-known-c c = search needs
-
-walk-bwd-requires-2 : tie.Need-walk-bwd-requires-2
-walk-bwd-requires-2 c κs = search needs
-
-enum-told : tie.Need-enum-told
-enum-told c = search needs
-
-enum-known-e : tie.Need-enum-known-e
-enum-known-e c = search needs
-
 returns : tie.Need-returns
 returns c = let g = c .before .before in on-at _ _ _ (first (g .before .before)) _ _ (g .c .given .1) (c .walk-bwd2 .ensures)
 
@@ -43,4 +28,12 @@ returns-3 c = let g = c .before in on-refused _ _ _ (first (g .before .before)) 
 pub open-before-spec : {M : Type 1} → statement M
 open-before-spec =
     tie.close
-    (tie.spec walk-bwd-requires enum-known-c walk-bwd-requires-2 enum-told enum-known-e returns returns-2 returns-3)
+    (tie.spec
+    (λ c κs. search needs)
+    (λ c. search needs)
+    (λ c κs. search needs)
+    (λ c. search needs)
+    (λ c. search needs)
+    returns
+    returns-2
+    returns-3)

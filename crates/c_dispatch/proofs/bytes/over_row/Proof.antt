@@ -4,15 +4,9 @@ use Rattle.wire.specs.Bytes.{tabulate}
 use Rattle.c_dispatch.proofs.bytes.over_row.Statement.{statement}
 use Rattle.c_dispatch.proofs.bytes.over_row.Tie as tie
 
-slice-aggregate-over-bytes : tie.Need-slice-aggregate-over-bytes
-slice-aggregate-over-bytes c = search needs
-
-over-bytes-requires : tie.Need-over-bytes-requires
-over-bytes-requires c κs = search needs
-
 returns : tie.Need-returns
 unfolding tabulate
 returns c = search needs
 
 pub over-row-spec : {M : Type 1} → statement M
-over-row-spec = tie.close (tie.spec slice-aggregate-over-bytes over-bytes-requires returns)
+over-row-spec = tie.close (tie.spec (λ c. search needs) (λ c κs. search needs) returns)

@@ -21,22 +21,14 @@ use Rattle.c_dispatch.proofs.reader.read_text.Tie as tie
 abbrev entry : tie.After-fitting → tie.Start
 entry c = c .before .before .before .before
 
-refused-requires : tie.Need-refused-requires
-refused-requires c κs = search needs
-
 returns : tie.Need-returns
 returns c =
     let a = c .before .before .before .before .args in
-    let g = sym (too-long _ _ (c .before .if1 .taken)) in (
-      toZ-ofZ w64 _ (record { sfits = c .refused .ok }) ∙ c .refused .ensures ∙ ap (λ x. wireOf (through x (at (length (a .text .now))))) g,
-      ap (λ x. leftRow x (a .text .now) (a .row .now)) g,
-    )
-
-fitting-requires : tie.Need-fitting-requires
-fitting-requires c κs = search needs
-
-array-borrow-prefix-words : tie.Need-array-borrow-prefix-words
-array-borrow-prefix-words c = search needs
+    let g = sym (too-long _ _ (c .before .if1 .taken)) in
+    record {
+      answer = toZ-ofZ w64 _ (record { sfits = c .refused .ok }) ∙ c .refused .ensures ∙ ap (λ x. wireOf (through x (at (length (a .text .now))))) g;
+      slice = ap (λ x. leftRow x (a .text .now) (a .row .now)) g;
+    }
 
 slice-aggregate-read-through : tie.Need-slice-aggregate-read-through
 slice-aggregate-read-through c =
@@ -51,9 +43,6 @@ read-through-requires c κs =
     let e : 8 * m .result ≤ length (entry f .args .row .now) = omega (arith, m .ensures) in
     rw (length-take-le _ _ h) e
 
-same-length : tie.Need-same-length
-same-length c = search needs
-
 returns-2 : tie.Need-returns-2
 returns-2 c =
     let t = c .before .before .before in
@@ -62,20 +51,21 @@ returns-2 c =
     let r = t .read-through in
     let m = f .fitting in
     let h : m .result ≤ 64 = omega (arith, m .ensures) in
-    let g = ap (textGate (a .text .now)) (length-take-le _ _ h ∙ m .ensures) ∙ sym (short (a .text .now) _ (f .before .if1 .left)) in (
-      toZ-ofZ w64 _ (record { sfits = r .ok }) ∙ r .ensures .0 ∙ ap (λ x. wireOf (through x (at (length (a .text .now))))) g,
-      r .ensures .1 ∙ ap (λ x. leftRow x (a .text .now) (a .row .now)) g,
-    )
+    let g = ap (textGate (a .text .now)) (length-take-le _ _ h ∙ m .ensures) ∙ sym (short (a .text .now) _ (f .before .if1 .left)) in
+    record {
+      answer = toZ-ofZ w64 _ (record { sfits = r .ok }) ∙ r .ensures .answer ∙ ap (λ x. wireOf (through x (at (length (a .text .now))))) g;
+      slice = r .ensures .slice ∙ ap (λ x. leftRow x (a .text .now) (a .row .now)) g;
+    }
 
 pub read-text-spec : {M : Type 1} → statement M
 read-text-spec =
     tie.close
     (tie.spec
-    refused-requires
+    (λ c κs. search needs)
     returns
-    fitting-requires
-    array-borrow-prefix-words
+    (λ c κs. search needs)
+    (λ c. search needs)
     slice-aggregate-read-through
     read-through-requires
-    same-length
+    (λ c. search needs)
     returns-2)

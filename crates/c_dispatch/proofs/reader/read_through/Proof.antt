@@ -31,7 +31,7 @@ read c = c .before .before .before
 passed : (c : tie.After-n)
     → let a = entry (read (c .before)) .args in
     (textGate (a .text .now) (length (a .words .now)) ≡ Pass) × (c .n .given .0 .0 ≡ length (a .text .now))
-passed c = count-passed _ _ _ (sym (ap paperRead (c .n .given .1)) ∙ read (c .before) .read-text .ensures .0)
+passed c = count-passed _ _ _ (sym (ap paperRead (c .n .given .1)) ∙ read (c .before) .read-text .ensures .answer)
 
 -- In this arm the slice has at least as many words as are written.
 fits : (c : tie.After-n)
@@ -41,18 +41,6 @@ fits c = let p = passed c in rw (p .1) (text-fits _ _ (p .0))
 
 enough : (c : tie.After-words-for) → let n = c .before .before in c .words-for .result ≤ length (read (n .before) .read-text .last .1 .0)
 enough c = let n = c .before .before in omega (arith, fits n .1, c .words-for .ensures, read (n .before) .read-text .kept .1 .0)
-
-read-text-requires : tie.Need-read-text-requires
-read-text-requires c κs = search needs
-
-enum-known-k : tie.Need-enum-known-k
-enum-known-k c = search needs
-
-refused-requires : tie.Need-refused-requires
-refused-requires c κs = search needs
-
-enum-known-n : tie.Need-enum-known-n
-enum-known-n c = search needs
 
 words-for-requires : tie.Need-words-for-requires
 words-for-requires c κs = fits (c .before) .0
@@ -76,24 +64,16 @@ cast-result c =
     let f = fits (e .before .before) .0 in
     record { sfits = omega arith }
 
-same-length : tie.Need-same-length
-same-length c = search needs
-
 returns : tie.Need-returns
 returns c =
     let k = c .before .before in
     let b = k .before .before .before .before in
     let a = entry b .args in
-    let e = sym (ap paperRead (k .k .given .1)) ∙ b .read-text .ensures .0 in (
-      toZ-ofZ w64 _ (record { sfits = c .refused .ok }) ∙ c .refused .ensures ∙ ap wireOf e,
-      row-refused (a .text .now) (a .words .now) (a .row .now) _ e,
-    )
-
-same-length-2 : tie.Need-same-length-2
-same-length-2 c = search needs
-
-same-length-3 : tie.Need-same-length-3
-same-length-3 c = search needs
+    let e = sym (ap paperRead (k .k .given .1)) ∙ b .read-text .ensures .answer in
+    record {
+      answer = toZ-ofZ w64 _ (record { sfits = c .refused .ok }) ∙ c .refused .ensures ∙ ap wireOf e;
+      slice = row-refused (a .text .now) (a .words .now) (a .row .now) _ e;
+    }
 
 returns-2 : tie.Need-returns-2
 returns-2 c =
@@ -102,27 +82,28 @@ returns-2 c =
     let n = e .before .before in
     let b = read (n .before) .read-text .ensures in
     let a = entry (read (n .before)) .args in
-    let f = fits n .0 in (
-      toZ-pos w64 _ (omega arith) ∙ ap wireOf (sym (ap paperRead (n .n .given .1)) ∙ b .0),
-      w .write-words .ensures
-          ∙ row-passed (a .text .now) (a .words .now) (a .row .now) _ _ (passed n .0) (b .1) (e .words-for .ensures ∙ ap wordsFor (passed n .1)),
-    )
+    let f = fits n .0 in
+    record {
+      answer = toZ-pos w64 _ (omega arith) ∙ ap wireOf (sym (ap paperRead (n .n .given .1)) ∙ b .answer);
+      slice = w .write-words .ensures
+          ∙ row-passed (a .text .now) (a .words .now) (a .row .now) _ _ (passed n .0) (b .slice) (e .words-for .ensures ∙ ap wordsFor (passed n .1));
+    }
 
 pub read-through-spec : {M : Type 1} → statement M
 read-through-spec =
     tie.close
     (tie.spec
-    read-text-requires
-    enum-known-k
-    refused-requires
-    enum-known-n
+    (λ c κs. search needs)
+    (λ c. search needs)
+    (λ c κs. search needs)
+    (λ c. search needs)
     words-for-requires
     slice-reshare-prefix-write-words
     slice-aggregate-write-words
     write-words-requires
     cast-result
-    same-length
+    (λ c. search needs)
     returns
-    same-length-2
-    same-length-3
+    (λ c. search needs)
+    (λ c. search needs)
     returns-2)

@@ -17,15 +17,6 @@ use Rattle.c_listings.proofs.bytes.list_decoded.Tie as tie
 fits : (c : tie.After-fitting) → c .fitting .result ≤ answerRoom
 fits c = omega (arith, c .fitting .ensures)
 
-fitting-requires : tie.Need-fitting-requires
-fitting-requires c κs = search needs
-
-bits-requires : tie.Need-bits-requires
-bits-requires c κs = search needs
-
-array-borrow-prefix-answers : tie.Need-array-borrow-prefix-answers
-array-borrow-prefix-answers c = search needs
-
 slice-aggregate-put-listing : tie.Need-slice-aggregate-put-listing
 slice-aggregate-put-listing c = sym (length-take-le _ _ (fits (c .before .before)))
 
@@ -34,27 +25,25 @@ put-listing-requires c κs =
     let f = c .before .before .before in
     rw (length-take-le _ _ (fits f)) (omega (arith, f .fitting .ensures))
 
-same-length : tie.Need-same-length
-same-length c = search needs
-
 returns : tie.Need-returns
 returns c =
     let d = c .before .before .before in
     let b = d .before .before .before in
     let p = d .put-listing in
-    let t = length-take-le _ _ (fits (b .before)) ∙ b .before .fitting .ensures in (
-      toZ-ofZ w64 _ (record { sfits = p .ok }) ∙ p .ensures .0 ∙ ap wireOf (count-cut _ _ _ _ _ _ _ _ _ (b .bits .ensures) t),
-      p .ensures .1 ∙ bytes-cut _ _ _ _ _ _ _ _ _ (b .bits .ensures) t _,
-    )
+    let t = length-take-le _ _ (fits (b .before)) ∙ b .before .fitting .ensures in
+    record {
+      answer = toZ-ofZ w64 _ (record { sfits = p .ok }) ∙ p .ensures .answer ∙ ap wireOf (count-cut _ _ _ _ _ _ _ _ _ (b .bits .ensures) t);
+      slice = p .ensures .slice ∙ bytes-cut _ _ _ _ _ _ _ _ _ (b .bits .ensures) t _;
+    }
 
 pub list-decoded-spec : {M : Type 1} → statement M
 list-decoded-spec =
     tie.close
     (tie.spec
-    fitting-requires
-    bits-requires
-    array-borrow-prefix-answers
+    (λ c κs. search needs)
+    (λ c κs. search needs)
+    (λ c. search needs)
     slice-aggregate-put-listing
     put-listing-requires
-    same-length
+    (λ c. search needs)
     returns)

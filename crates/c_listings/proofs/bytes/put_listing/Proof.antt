@@ -30,7 +30,7 @@ counted : (c : tie.After-c) → at (c .c .given .0 .0) ≡ paperListed (listed c
 counted c = sym (ap paperListed (c .c .given .1))
 
 low : (c : tie.After-c) → c .c .given .0 .0 < (maxBits + 3)
-low c = count-low _ _ _ _ _ _ _ _ (counted c ∙ listed c .list .ensures .0)
+low c = count-low _ _ _ _ _ _ _ _ (counted c ∙ listed c .list .ensures .answer)
 
 -- The array has as many numbers as the count says, and these are the bytes after they are written.
 written : (c : tie.After-c) →
@@ -39,19 +39,7 @@ written : (c : tie.After-c) →
     (c .c .given .0 .0 ≤ length ys)
     × (numbersOver (take (c .c .given .0 .0) ys) (a .out .now)
     ≡ listedBytes (a .rising) (a .words .now) (a .n) (a .nodes .now) (a .block) (a .node) (length (a .answers .now)) (a .out .now))
-written c = let e = listed c .list .ensures in bytes-passed _ _ _ _ _ _ _ _ _ _ (counted c ∙ e .0) (e .1)
-
-list-requires : tie.Need-list-requires
-list-requires c κs = search needs
-
-enum-known-k : tie.Need-enum-known-k
-enum-known-k c = search needs
-
-refused-requires : tie.Need-refused-requires
-refused-requires c κs = search needs
-
-enum-known-c : tie.Need-enum-known-c
-enum-known-c c = search needs
+written c = let e = listed c .list .ensures in bytes-passed _ _ _ _ _ _ _ _ _ _ (counted c ∙ e .answer) (e .slice)
 
 slice-reshare-prefix-write-numbers : tie.Need-slice-reshare-prefix-write-numbers
 slice-reshare-prefix-write-numbers c = written (c .before) .0
@@ -71,44 +59,36 @@ cast-result c =
     let l = low (w .before .before .before .before) in
     record { sfits = omega arith }
 
-same-length : tie.Need-same-length
-same-length c = search needs
-
 returns : tie.Need-returns
 returns c =
     let k = c .before .before in
-    let e = sym (ap paperListed (k .k .given .1)) ∙ k .before .before .before .list .ensures .0 in
-    (toZ-ofZ w64 _ (record { sfits = c .refused .ok }) ∙ c .refused .ensures ∙ ap wireOf e, bytes-refused _ _ _ _ _ _ _ _ _ e)
-
-same-length-2 : tie.Need-same-length-2
-same-length-2 c = search needs
-
-same-length-3 : tie.Need-same-length-3
-same-length-3 c = search needs
+    let e = sym (ap paperListed (k .k .given .1)) ∙ k .before .before .before .list .ensures .answer in
+    record { answer = toZ-ofZ w64 _ (record { sfits = c .refused .ok }) ∙ c .refused .ensures ∙ ap wireOf e; slice = bytes-refused _ _ _ _ _ _ _ _ _ e }
 
 returns-2 : tie.Need-returns-2
 returns-2 c =
     let w = c .before .before in
     let e = w .before .before .before .before in
-    let l = low e in (
-      toZ-pos w64 _ (omega arith) ∙ ap wireOf (counted e ∙ listed e .list .ensures .0),
-      w .write-numbers .ensures ∙ written e .1,
-    )
+    let l = low e in
+    record {
+      answer = toZ-pos w64 _ (omega arith) ∙ ap wireOf (counted e ∙ listed e .list .ensures .answer);
+      slice = w .write-numbers .ensures ∙ written e .1;
+    }
 
 pub put-listing-spec : {M : Type 1} → statement M
 put-listing-spec =
     tie.close
     (tie.spec
-    list-requires
-    enum-known-k
-    refused-requires
-    enum-known-c
+    (λ c κs. search needs)
+    (λ c. search needs)
+    (λ c κs. search needs)
+    (λ c. search needs)
     slice-reshare-prefix-write-numbers
     slice-aggregate-write-numbers
     write-numbers-requires
     cast-result
-    same-length
+    (λ c. search needs)
     returns
-    same-length-2
-    same-length-3
+    (λ c. search needs)
+    (λ c. search needs)
     returns-2)

@@ -23,52 +23,34 @@ counted : (c : tie.After-known-told) → at (c .before .c .given .0 .0) ≡ pape
 counted c = sym (ap paperListed (c .before .c .given .1))
 
 low : (c : tie.After-known-told) → c .before .c .given .0 .0 < (maxBits + 3)
-low c = count-low _ _ _ _ _ _ _ _ (counted c ∙ listed c .list .ensures .0)
-
-list-requires : tie.Need-list-requires
-list-requires c κs = search needs
-
-enum-known-c : tie.Need-enum-known-c
-enum-known-c c = search needs
+low c = count-low _ _ _ _ _ _ _ _ (counted c ∙ listed c .list .ensures .answer)
 
 cast-result : tie.Need-cast-result
 cast-result c = let l = low c in record { sfits = omega arith }
-
-enum-known-k : tie.Need-enum-known-k
-enum-known-k c = search needs
-
-refused-requires : tie.Need-refused-requires
-refused-requires c κs = search needs
-
-same-length : tie.Need-same-length
-same-length c = search needs
 
 returns : tie.Need-returns
 returns c =
     let l = low c in
     let e = listed c .list .ensures in
-    (toZ-pos w64 _ (omega arith) ∙ ap wireOf (counted c ∙ e .0), e .1)
-
-same-length-2 : tie.Need-same-length-2
-same-length-2 c = search needs
+    record { answer = toZ-pos w64 _ (omega arith) ∙ ap wireOf (counted c ∙ e .answer); slice = e .slice }
 
 returns-2 : tie.Need-returns-2
 returns-2 c =
     let k = c .before .before in
     let e = k .before .before .before .list .ensures in
-    let r = sym (ap paperListed (k .k .given .1)) ∙ e .0 in
-    (toZ-ofZ w64 _ (record { sfits = c .refused .ok }) ∙ c .refused .ensures ∙ ap wireOf r, e .1)
+    let r = sym (ap paperListed (k .k .given .1)) ∙ e .answer in
+    record { answer = toZ-ofZ w64 _ (record { sfits = c .refused .ok }) ∙ c .refused .ensures ∙ ap wireOf r; slice = e .slice }
 
 pub to-numbers-spec : {M : Type 1} → statement M
 to-numbers-spec =
     tie.close
     (tie.spec
-    list-requires
-    enum-known-c
+    (λ c κs. search needs)
+    (λ c. search needs)
     cast-result
-    enum-known-k
-    refused-requires
-    same-length
+    (λ c. search needs)
+    (λ c κs. search needs)
+    (λ c. search needs)
     returns
-    same-length-2
+    (λ c. search needs)
     returns-2)

@@ -34,25 +34,13 @@ gate c =
 
 -- The tests passed in the arm that writes.
 passed : (c : tie.After-enum-told) → gate (built c) ≡ Pass
-passed c = built-passed _ (sym (ap paperBuilt (c .enum-told .given .1)) ∙ built c .build .ensures .0)
+passed c = built-passed _ (sym (ap paperBuilt (c .enum-told .given .1)) ∙ built c .build .ensures .answer)
 
 -- In this arm the array has at least as many numbers as are written.
 enough : (c : tie.After-node-numbers) → c .node-numbers .result ≤ length (built (c .before) .build .last .1 .1 .0)
 enough c =
     let f = gate-fine _ _ _ _ (passed (c .before)) in
     omega (arith, c .node-numbers .ensures, f .nodes, built (c .before) .build .kept .1 .1 .0)
-
-build-requires : tie.Need-build-requires
-build-requires c κs = search needs
-
-enum-known-k : tie.Need-enum-known-k
-enum-known-k c = search needs
-
-refused-requires : tie.Need-refused-requires
-refused-requires c κs = search needs
-
-enum-told : tie.Need-enum-told
-enum-told c = search needs
 
 node-numbers-requires : tie.Need-node-numbers-requires
 node-numbers-requires c κs = let f = gate-fine _ _ _ _ (passed c) in (f .short, f .eight, f .small)
@@ -69,45 +57,37 @@ write-numbers-requires c κs =
     let b = built (e .before) in
     rw (length-take-le _ _ (enough e)) (omega (arith, enough e, b .build .kept .1 .1 .0, entry b .pre))
 
-same-length : tie.Need-same-length
-same-length c = search needs
-
 returns : tie.Need-returns
 returns c =
     let k = c .before .before in
-    let e = sym (ap paperBuilt (k .k .given .1)) ∙ k .before .before .before .build .ensures .0 in
-    (toZ-ofZ w64 _ (record { sfits = c .refused .ok }) ∙ c .refused .ensures ∙ ap wireOf e, bytes-refused _ _ _ _ _ _ e)
-
-same-length-2 : tie.Need-same-length-2
-same-length-2 c = search needs
-
-same-length-3 : tie.Need-same-length-3
-same-length-3 c = search needs
+    let e = sym (ap paperBuilt (k .k .given .1)) ∙ k .before .before .before .build .ensures .answer in
+    record { answer = toZ-ofZ w64 _ (record { sfits = c .refused .ok }) ∙ c .refused .ensures ∙ ap wireOf e; slice = bytes-refused _ _ _ _ _ _ e }
 
 returns-2 : tie.Need-returns-2
 returns-2 c =
     let w = c .before .before in
     let e = w .before .before .before in
     let b = built (e .before) in
-    let g = passed (e .before) in (
-      ap (λ x. wireOf (through x (at 0))) (sym g),
-      w .write-numbers .ensures ∙ bytes-passed _ _ _ _ _ _ _ _ refl g (b .build .ensures .1) (e .node-numbers .ensures),
-    )
+    let g = passed (e .before) in
+    record {
+      answer = ap (λ x. wireOf (through x (at 0))) (sym g);
+      slice = w .write-numbers .ensures ∙ bytes-passed _ _ _ _ _ _ _ _ refl g (b .build .ensures .slice) (e .node-numbers .ensures);
+    }
 
 pub build-spec : {M : Type 1} → statement M
 build-spec =
     tie.close
     (tie.spec
-    build-requires
-    enum-known-k
-    refused-requires
-    enum-told
+    (λ c κs. search needs)
+    (λ c. search needs)
+    (λ c κs. search needs)
+    (λ c. search needs)
     node-numbers-requires
     slice-reshare-prefix-write-numbers
     slice-aggregate-write-numbers
     write-numbers-requires
-    same-length
+    (λ c. search needs)
     returns
-    same-length-2
-    same-length-3
+    (λ c. search needs)
+    (λ c. search needs)
     returns-2)

@@ -6,9 +6,6 @@ use borrow.Author.Needs.{needs}
 use Rattle.capi.proofs.call.node_numbers.Statement.{statement}
 use Rattle.capi.proofs.call.node_numbers.Tie as tie
 
-layout-of-requires : tie.Need-layout-of-requires
-layout-of-requires c κs = search needs
-
 add-result : tie.Need-add-result
 add-result c =
     let s = c .before .before in
@@ -23,4 +20,4 @@ returns : tie.Need-returns
 returns c = rw (c .before .layout-of .ensures)
 
 pub node-numbers-spec : {M : Type 1} → statement M
-node-numbers-spec = tie.close (tie.spec layout-of-requires add-result mul-result returns)
+node-numbers-spec = tie.close (tie.spec (λ c κs. search needs) add-result mul-result returns)

@@ -3,14 +3,8 @@ use borrow.Author.Needs.{needs}
 use Rattle.list_slice.proofs.seek.first.Statement.{statement}
 use Rattle.list_slice.proofs.seek.first.Tie as tie
 
-first-child-requires : tie.Need-first-child-requires
-first-child-requires c κs = search needs
-
-opening-requires : tie.Need-opening-requires
-opening-requires c κs = search needs
-
 returns : tie.Need-returns
 returns c = rw (c .before .first-child .ensures) at (c .opening .ensures)
 
 pub first-spec : {M : Type 1} → statement M
-first-spec = tie.close (tie.spec first-child-requires opening-requires returns)
+first-spec = tie.close (tie.spec (λ c κs. search needs) (λ c κs. search needs) returns)

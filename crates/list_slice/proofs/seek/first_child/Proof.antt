@@ -7,18 +7,6 @@ use Rattle.list_slice.proofs.FirstSought.{sought-refused, sought-first}
 use Rattle.list_slice.proofs.seek.first_child.Statement.{statement}
 use Rattle.list_slice.proofs.seek.first_child.Tie as tie
 
-admit-node-requires : tie.Need-admit-node-requires
-admit-node-requires c κs = search needs
-
-enum-known-k : tie.Need-enum-known-k
-enum-known-k c = search needs
-
-enum-told : tie.Need-enum-told
-enum-told c = search needs
-
-first-child-requires : tie.Need-first-child-requires
-first-child-requires c κs = search needs
-
 returns : tie.Need-returns
 returns c =
     let b = c .before .before .before in
@@ -32,4 +20,4 @@ returns-2 c =
 pub first-child-spec : {M : Type 1} → statement M
 first-child-spec =
     tie.close
-    (tie.spec admit-node-requires enum-known-k enum-told first-child-requires returns returns-2)
+    (tie.spec (λ c κs. search needs) (λ c. search needs) (λ c. search needs) (λ c κs. search needs) returns returns-2)

@@ -5,15 +5,9 @@ use Rattle.list_slice.specs.Seek.{sought}
 use Rattle.list_slice.proofs.seek.last.Statement.{statement}
 use Rattle.list_slice.proofs.seek.last.Tie as tie
 
-last-child-requires : tie.Need-last-child-requires
-last-child-requires c κs = search needs
-
-opening-requires : tie.Need-opening-requires
-opening-requires c κs = search needs
-
 returns : tie.Need-returns
 unfolding sought
-returns c = rw (c .before .last-child .ensures .0) at (c .opening .ensures)
+returns c = rw (c .before .last-child .ensures .answer) at (c .opening .ensures)
 
 pub last-spec : {M : Type 1} → statement M
-last-spec = tie.close (tie.spec last-child-requires opening-requires returns)
+last-spec = tie.close (tie.spec (λ c κs. search needs) (λ c κs. search needs) returns)

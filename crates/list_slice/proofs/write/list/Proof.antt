@@ -19,31 +19,22 @@ asked c = let a = c .before .before .args in sought (a .rising) (a .words .now) 
 passed : (c : tie.After-enum-told) → let s = c .before .before in Unrefused (asked s) × (paperFound (s .start .result .held) ≡ asked s)
 passed c = let s = c .before .before in starts-passed (asked s) (s .start .result) (s .start .ensures) (c .enum-told .given .1)
 
-start-requires : tie.Need-start-requires
-start-requires c κs = search needs
-
-enum-known-gate : tie.Need-enum-known-gate
-enum-known-gate c = search needs
-
-enum-told : tie.Need-enum-told
-enum-told c = search needs
-
 write-steps-requires : tie.Need-write-steps-requires
 write-steps-requires c κs =
     let s = c .before .before .before in
     let p = passed (c .before) in
     let a = s .before .before .args in
     let g = sought-passed (a .words .now) (a .n) (a .nodes .now) (a .block) (a .v) (a .rising) (p .0) in
-    (passed-fine _ _ _ _ _ g .short, rw (p .1) (sought-below (a .rising) (a .words .now) (a .n) (a .nodes .now) (a .block) (a .v)))
+    record {
+      short = passed-fine _ _ _ _ _ g .short;
+      below = rw (p .1) (sought-below (a .rising) (a .words .now) (a .n) (a .nodes .now) (a .block) (a .v));
+    }
 
 returns : tie.Need-returns
 returns c =
     let s = c .before .before .before in
     let k = c .before .gate .given in
     list-refused _ _ _ _ _ _ _ _ (starts-refused (asked s) (s .start .result) (s .start .ensures) (k .0 .0) (k .1))
-
-same-length : tie.Need-same-length
-same-length c = search needs
 
 returns-2 : tie.Need-returns-2
 returns-2 c =
@@ -55,10 +46,10 @@ pub list-spec : {M : Type 1} → statement M
 list-spec =
     tie.close
     (tie.spec
-    start-requires
-    enum-known-gate
-    enum-told
+    (λ c κs. search needs)
+    (λ c. search needs)
+    (λ c. search needs)
     write-steps-requires
     returns
-    same-length
+    (λ c. search needs)
     returns-2)

@@ -3,12 +3,6 @@ use borrow.Author.Needs.{needs}
 use Rattle.list_slice.proofs.write.start.Statement.{statement}
 use Rattle.list_slice.proofs.write.start.Tie as tie
 
-first-requires : tie.Need-first-requires
-first-requires c κs = search needs
-
-last-requires : tie.Need-last-requires
-last-requires c κs = search needs
-
 returns : tie.Need-returns
 returns c = rw (c .before .if1 .taken) (c .first .ensures)
 
@@ -16,4 +10,4 @@ returns-2 : tie.Need-returns-2
 returns-2 c = rw (c .before .if1 .left) (c .last .ensures)
 
 pub start-spec : {M : Type 1} → statement M
-start-spec = tie.close (tie.spec first-requires last-requires returns returns-2)
+start-spec = tie.close (tie.spec (λ c κs. search needs) (λ c κs. search needs) returns returns-2)

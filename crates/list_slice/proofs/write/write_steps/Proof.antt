@@ -25,7 +25,7 @@ abbrev μ-loop : tie.MeasureT-loop
 μ-loop words n nodes block rising out₀ held₀ i₀ out held i = length out₀ - i
 
 loop-holds : tie.Need-loop-holds Inv-loop μ-loop
-loop-holds c = (c .before .pre .1, writing-start _ _ _)
+loop-holds c = (c .before .pre .below, writing-start _ _ _)
 
 -- The number that is written is the held answer on the wire.
 number : (c : tie.After-found Inv-loop μ-loop) → toZ w64 (ofZ w64 (c .found .result)) ≡ wireOf (paperFound (c .before .before .loop .held))
@@ -34,19 +34,7 @@ number c = toZ-ofZ w64 (c .found .result) (record { sfits = c .found .ok }) ∙ 
 found-requires : tie.Need-found-requires Inv-loop μ-loop
 found-requires c κs =
     let s = c .before .before .before in
-    below-small (s .args .n) (paperFound (c .before .loop .held)) (s .pre .0) (c .before .loop .inv .0)
-
-mul-t10 : tie.Need-mul-t10 Inv-loop μ-loop
-mul-t10 c = search needs
-
-slice-set-from-out : tie.Need-slice-set-from-out Inv-loop μ-loop
-slice-set-from-out c = search needs
-
-add-i : tie.Need-add-i Inv-loop μ-loop
-add-i c = search needs
-
-is-nothing-requires : tie.Need-is-nothing-requires Inv-loop μ-loop
-is-nothing-requires c κs = search needs
+    below-small (s .args .n) (paperFound (c .before .loop .held)) (s .pre .short) (c .before .loop .inv .0)
 
 same-length : tie.Need-same-length Inv-loop μ-loop
 same-length c = let l = c .before .before .before .before .loop in length-set (l .out) (l .i) _ ∙ l .inv .1 .same
@@ -57,9 +45,6 @@ returns c =
     let l = n .before .before .loop in
     let w = written-ended _ _ _ _ _ _ (l .inv .1) (omega arith) (sym (c .before .is-nothing .ensures) ∙ c .if1 .taken) in
     record { count = w .count; left = rw (number n) (w .left) }
-
-after-requires : tie.Need-after-requires Inv-loop μ-loop
-after-requires c κs = search needs
 
 loop-less : tie.Need-loop-less Inv-loop μ-loop
 loop-less c =
@@ -90,13 +75,13 @@ write-steps-spec =
     μ-loop
     loop-holds
     found-requires
-    mul-t10
-    slice-set-from-out
-    add-i
-    is-nothing-requires
+    (λ c. search needs)
+    (λ c. search needs)
+    (λ c. search needs)
+    (λ c κs. search needs)
     same-length
     returns
-    after-requires
+    (λ c κs. search needs)
     loop-less
     loop-again
     same-length-2

@@ -19,15 +19,6 @@ gate c = let a = c .before .before .args in nodesGate (length (a .words .now)) (
 passed : (c : tie.After-enum-told) → gate (c .before .before) ≡ Pass
 passed c = sym (c .before .before .admit .ensures) ∙ c .enum-told .given .1
 
-admit-requires : tie.Need-admit-requires
-admit-requires c κs = search needs
-
-enum-known-k : tie.Need-enum-known-k
-enum-known-k c = search needs
-
-enum-told : tie.Need-enum-told
-enum-told c = search needs
-
 fill-requires : tie.Need-fill-requires
 fill-requires c κs = gate-fine _ _ _ _ (passed (c .before))
 
@@ -35,17 +26,14 @@ returns : tie.Need-returns
 returns c =
     let b = c .before .before .before in
     let g : gate b ≡ Refuse (c .before .k .given .0 .0) = sym (b .admit .ensures) ∙ c .before .k .given .1 in
-    (simp g, build-refused _ _ _ _ _ g)
-
-same-length : tie.Need-same-length
-same-length c = search needs
+    record { answer = simp g; slice = build-refused _ _ _ _ _ g }
 
 returns-2 : tie.Need-returns-2
 returns-2 c =
     let g = passed (c .before .before .before) in
-    (simp g, c .before .fill .ensures ∙ when-passed _ _ _ _ g)
+    record { answer = simp g; slice = c .before .fill .ensures ∙ when-passed _ _ _ _ g }
 
 pub build-spec : {M : Type 1} → statement M
 build-spec =
     tie.close
-    (tie.spec admit-requires enum-known-k enum-told fill-requires returns same-length returns-2)
+    (tie.spec (λ c κs. search needs) (λ c. search needs) (λ c. search needs) fill-requires returns (λ c. search needs) returns-2)

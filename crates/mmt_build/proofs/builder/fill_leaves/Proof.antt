@@ -19,7 +19,7 @@ Inv-loop t words n block part₀ l b₀ part b = (b ≤ l) × (length part ≡ l
 abbrev μ-loop : tie.MeasureT-loop
 μ-loop t words n block part₀ l b₀ part b = l - b
 
--- the start of the function, reached back from the loop
+-- from the state at the loop back to the start of the function
 abbrev entry : tie.At-loop Inv-loop μ-loop → tie.Start Inv-loop μ-loop
 entry t = t .before .before
 
@@ -30,17 +30,10 @@ leaf-summary-requires : tie.Need-leaf-summary-requires Inv-loop μ-loop
 leaf-summary-requires c κs =
     let t = c .before .before in
     let s = entry t in
-    let p = s .pre .1 .1 .0 in
-    (s .pre .0, (s .pre .1 .0, (p .0, p .1, p .2, leaves-in (s .args .n) (s .args .block) (omega arith) (t .loop .b) (omega arith))))
+    record { table = s .pre .table; blocks = s .pre .blocks; begins = leaves-in (s .args .n) (s .args .block) (omega arith) (t .loop .b) (omega arith) }
 
 put-node-requires : tie.Need-put-node-requires Inv-loop μ-loop
 put-node-requires c κs = omega arith
-
-add-b : tie.Need-add-b Inv-loop μ-loop
-add-b c = search needs
-
-loop-less : tie.Need-loop-less Inv-loop μ-loop
-loop-less c = search needs
 
 loop-again : tie.Need-loop-again Inv-loop μ-loop
 loop-again c =
@@ -71,8 +64,8 @@ fill-leaves-spec =
     loop-holds
     leaf-summary-requires
     put-node-requires
-    add-b
-    loop-less
+    (λ c. search needs)
+    (λ c. search needs)
     loop-again
     same-length
     returns)

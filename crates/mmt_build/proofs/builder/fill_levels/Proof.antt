@@ -15,35 +15,28 @@ Inv-loop t words n nodes₀ block first all k₀ nodes k = (k ≤ first) × Leve
 abbrev μ-loop : tie.MeasureT-loop
 μ-loop t words n nodes₀ block first all k₀ nodes k = k
 
--- the start of the function, reached back from the loop
+-- from the state at the loop back to the start of the function
 abbrev entry : tie.At-loop Inv-loop μ-loop → tie.Start Inv-loop μ-loop
 entry t = t .before .before
 
 loop-holds : tie.Need-loop-holds Inv-loop μ-loop
-loop-holds c = (omega arith, leveled-start _ _ _ _ _ (c .before .pre .1 .1 .1))
-
-sub-k : tie.Need-sub-k Inv-loop μ-loop
-sub-k c = search needs
+loop-holds c = (omega arith, leveled-start _ _ _ _ _ (c .before .pre .ruled))
 
 wanted-requires : tie.Need-wanted-requires Inv-loop μ-loop
 wanted-requires c κs =
     let t = c .before .before in
     let s = entry t in
     let l = t .loop in
-    let f = s .pre .1 .0 in
     let e : (l .k - 1) + 1 ≡ l .k = omega arith in
-    (s .pre .0, (rw (l .inv .1 .same) f, ((s .pre .1 .1 .0 .0, s .pre .1 .1 .0 .1, omega arith), rw e (l .inv .1 .nodes))))
+    record { table = s .pre .table; laid = rw (l .inv .1 .same) (s .pre .laid); inside = omega arith; ruled = rw e (l .inv .1 .nodes) }
 
 put-node-requires : tie.Need-put-node-requires Inv-loop μ-loop
 put-node-requires c κs =
     let t = c .before .before .before .before in
     let l = t .loop in
-    let f = entry t .pre .1 .0 in
+    let f = entry t .pre .laid in
     let g = l .inv .1 .same in
     omega arith
-
-loop-less : tie.Need-loop-less Inv-loop μ-loop
-loop-less c = search needs
 
 loop-again : tie.Need-loop-again Inv-loop μ-loop
 loop-again c =
@@ -54,7 +47,7 @@ loop-again c =
     let a = s .args in
     let l = t .loop in
     let x = w .wanted in
-    let f = s .pre .1 .0 in
+    let f = s .pre .laid .fine in
     let e : (l .k - 1) + 1 ≡ l .k = omega arith in
     (omega arith, rw (c .before .put-node .ensures) (leveled-down (a .words .now) (a .n) (a .nodes .now) (l .nodes) (a .block) (l .k - 1) (x .result) (rw (l .inv .1 .same) (f .nodes)) (omega arith) (x .ensures) (rw e (l .inv .1))))
 
@@ -71,10 +64,10 @@ fill-levels-spec =
     Inv-loop
     μ-loop
     loop-holds
-    sub-k
+    (λ c. search needs)
     wanted-requires
     put-node-requires
-    loop-less
+    (λ c. search needs)
     loop-again
     same-length
     returns)

@@ -12,19 +12,18 @@ use Rattle.mmt_build.proofs.Filled.{back, leveled-on, leaves-leveled, l
 use Rattle.mmt_build.proofs.builder.fill_nodes.Statement.{statement}
 use Rattle.mmt_build.proofs.builder.fill_nodes.Tie as tie
 
--- the start of the function, reached back from the call of `fill_leaves`
--- `filled`: the state after that call, reached back from the call of `fill_levels`
+-- from the call of `fill_leaves` back to the start of the function
 abbrev entry : tie.After-fill-leaves-arg → tie.Start
 entry c = c .before .before .before .before
 
+-- from the call of `fill_levels` back to the state after `fill_leaves`
 abbrev filled : tie.After-fill-levels-arg → tie.After-fill-leaves
 filled c = c .before .before .before
 
 -- the part has exactly three entries per block leaf
-lent : (s : tie.Start) → let a = s .args in length (take (width * a .all - width * a .first) (drop (width * a .first) (a .nodes .now))) ≡ width * leaves (a .n) (a .block)
-lent s =
-    let f = s .pre .0 in
-    let e = s .pre .1 in
+part-length : (s : tie.Start) → let a = s .args in length (take (width * a .all - width * a .first) (drop (width * a .first) (a .nodes .now))) ≡ width * leaves (a .n) (a .block)
+part-length s =
+    let e = s .pre in
     simp (length-take, length-drop) (omega (arith, layout-leaves (s .args .n) (s .args .block) (omega arith)))
 
 -- after the part is put back, the nodes from I on have their required entries
@@ -33,67 +32,46 @@ middle : (c : tie.After-fill-leaves) → let a = entry (c .before) .args in
 middle c =
     let s = entry (c .before) in
     let a = s .args in
-    let f = s .pre .0 in
-    let e = s .pre .1 in
-    leaves-leveled (a .words .now) (a .n) (a .nodes .now) (a .block) (f .nodes) (omega arith) (width * a .first) (width * a .all - width * a .first) (c .fill-leaves .last .1 .1 .1 .1 .0)
-    (omega arith) (omega arith) (c .fill-leaves .kept .1 .1 .1 .1 .0 ∙ lent s ∙ omega (arith, layout-leaves (a .n) (a .block) (omega arith))) (c .fill-leaves .ensures)
-
-mul-start : tie.Need-mul-start
-mul-start c = search needs
-
-mul-end : tie.Need-mul-end
-mul-end c = search needs
-
-table-requires : tie.Need-table-requires
-table-requires c κs = search needs
-
-mul-fill-leaves : tie.Need-mul-fill-leaves
-mul-fill-leaves c = search needs
-
-sub-fill-leaves : tie.Need-sub-fill-leaves
-sub-fill-leaves c = search needs
-
-part-fill-leaves-start : tie.Need-part-fill-leaves-start
-part-fill-leaves-start c = search needs
-
-part-fill-leaves-end : tie.Need-part-fill-leaves-end
-part-fill-leaves-end c = search needs
+    let e = s .pre in
+    leaves-leveled (a .words .now) (a .n) (a .nodes .now) (a .block) (e .fine .nodes) (omega arith) (width * a .first) (width * a .all - width * a .first) (c .fill-leaves .last .1 .1 .1 .1 .0)
+    (omega arith) (omega arith) (c .fill-leaves .kept .1 .1 .1 .1 .0 ∙ part-length s ∙ omega (arith, layout-leaves (a .n) (a .block) (omega arith))) (c .fill-leaves .ensures)
 
 fill-leaves-requires : tie.Need-fill-leaves-requires
 fill-leaves-requires c κs =
     let s = entry c in
-    let f = s .pre .0 in
-    (c .before .before .table .ensures, ((f .short, f .words), ((f .eight, f .small, f .eights), lent s)))
+    let f = s .pre .fine in
+    record { table = c .before .before .table .ensures; blocks = omega arith; exact = part-length s }
 
 fill-levels-requires : tie.Need-fill-levels-requires
 fill-levels-requires c κs =
     let m = filled c in
     let s = entry (m .before) in
     let l = middle m in
-    (m .before .before .before .table .ensures, (rw (l .same) (s .pre .0), (s .pre .1, λ j o i. l .nodes j (let e = s .pre .1 .0 in omega arith) i)))
-
-same-length : tie.Need-same-length
-same-length c = search needs
+    record {
+      table = m .before .before .before .table .ensures;
+      laid = rw (l .same) (s .pre);
+      ruled = λ j o i. l .nodes j (let e = s .pre .first-is in omega arith) i;
+    }
 
 returns : tie.Need-returns
 returns c =
     let m = filled (c .before .before) in
     let s = entry (m .before) in
     let a = s .args in
-    leveled-written (a .words .now) (a .n) (a .nodes .now) (a .block) (s .pre .0 .nodes) _ (leveled-on _ _ _ _ _ _ _ _ (middle m) (c .before .fill-levels .ensures))
+    leveled-written (a .words .now) (a .n) (a .nodes .now) (a .block) (s .pre .fine .nodes) _ (leveled-on _ _ _ _ _ _ _ _ (middle m) (c .before .fill-levels .ensures))
 
 pub fill-nodes-spec : {M : Type 1} → statement M
 fill-nodes-spec =
     tie.close
     (tie.spec
-    mul-start
-    mul-end
-    table-requires
-    mul-fill-leaves
-    sub-fill-leaves
-    part-fill-leaves-start
-    part-fill-leaves-end
+    (λ c. search needs)
+    (λ c. search needs)
+    (λ c κs. search needs)
+    (λ c. search needs)
+    (λ c. search needs)
+    (λ c. search needs)
+    (λ c. search needs)
     fill-leaves-requires
     fill-levels-requires
-    same-length
+    (λ c. search needs)
     returns)

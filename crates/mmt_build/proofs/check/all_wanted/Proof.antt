@@ -16,31 +16,22 @@ Inv-loop t words n nodes block first all k₀ k = Checked words n nodes block k
 abbrev μ-loop : tie.MeasureT-loop
 μ-loop t words n nodes block first all k₀ k = k
 
--- the start of the function, reached back from the loop
--- `top`: the head of the loop, reached back from the comparison of two nodes
+-- from the state at the loop back to the start of the function
 abbrev entry : tie.At-loop Inv-loop μ-loop → tie.Start Inv-loop μ-loop
 entry t = t .before .before
 
+-- from the comparison of two nodes back to the state at the loop
 abbrev top : tie.After-same Inv-loop μ-loop → tie.At-loop Inv-loop μ-loop
 top c = c .before .before .before .before
 
 loop-holds : tie.Need-loop-holds Inv-loop μ-loop
-loop-holds c = let a = c .before .args in rw (c .before .pre .1 .1 .1) (start (a .words .now) (a .n) (a .nodes .now) (a .block))
-
-sub-k : tie.Need-sub-k Inv-loop μ-loop
-sub-k c = search needs
+loop-holds c = let a = c .before .args in rw (c .before .pre .laid .all-is) (start (a .words .now) (a .n) (a .nodes .now) (a .block))
 
 wanted-requires : tie.Need-wanted-requires Inv-loop μ-loop
 wanted-requires c κs =
     let p = entry (c .before) .pre in
     let v = c .before .loop .inv in
-    (p .0, (p .1 .0, ((p .1 .1 .0, p .1 .1 .1, omega arith), λ j o i. v .ruled j (omega arith) i)))
-
-node-at-requires : tie.Need-node-at-requires Inv-loop μ-loop
-node-at-requires c κs = search needs
-
-same-requires : tie.Need-same-requires Inv-loop μ-loop
-same-requires c κs = search needs
+    record { table = p .table; laid = p .laid; inside = omega arith; ruled = λ j o i. v .ruled j (omega arith) i }
 
 -- the result of `same` is that of the test of node k - 1
 found : (c : tie.After-same Inv-loop μ-loop) → let a = entry (top c) .args in
@@ -52,9 +43,6 @@ returns c =
     let a = entry (top (c .before)) .args in
     let l = top (c .before) .loop in
     differs (a .words .now) (a .n) (a .nodes .now) (a .block) (l .k) (l .k - 1) (omega arith) (l .inv) (sym (found (c .before)) ∙ not-true _ (c .if1 .taken))
-
-loop-less : tie.Need-loop-less Inv-loop μ-loop
-loop-less c = search needs
 
 loop-again : tie.Need-loop-again Inv-loop μ-loop
 loop-again c =
@@ -75,11 +63,11 @@ all-wanted-spec =
     Inv-loop
     μ-loop
     loop-holds
-    sub-k
+    (λ c. search needs)
     wanted-requires
-    node-at-requires
-    same-requires
+    (λ c κs. search needs)
+    (λ c κs. search needs)
     returns
-    loop-less
+    (λ c. search needs)
     loop-again
     returns-2)

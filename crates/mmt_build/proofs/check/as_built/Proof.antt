@@ -13,15 +13,6 @@ use Rattle.mmt_build.proofs.check.as_built.Tie as tie
 passed : (c : tie.After-enum-told) → let a = c .before .before .before .before .args in nodesGate (length (a .words .now)) (a .n) (length (a .nodes .now)) (a .block) ≡ Pass
 passed c = sym (c .before .before .admit .ensures) ∙ c .enum-told .given .1
 
-admit-requires : tie.Need-admit-requires
-admit-requires c κs = search needs
-
-enum-known-k : tie.Need-enum-known-k
-enum-known-k c = search needs
-
-enum-told : tie.Need-enum-told
-enum-told c = search needs
-
 is-as-built-requires : tie.Need-is-as-built-requires
 is-as-built-requires c κs = gate-fine _ _ _ _ (passed c)
 
@@ -35,4 +26,13 @@ returns-3 : tie.Need-returns-3
 returns-3 c = when-not _ _ _ _ (passed (c .before .before)) (sym (c .before .is-as-built .ensures) ∙ c .if1 .left)
 
 pub as-built-spec : {M : Type 1} → statement M
-as-built-spec = tie.close (tie.spec admit-requires enum-known-k enum-told is-as-built-requires returns returns-2 returns-3)
+as-built-spec =
+    tie.close
+    (tie.spec
+    (λ c κs. search needs)
+    (λ c. search needs)
+    (λ c. search needs)
+    is-as-built-requires
+    returns
+    returns-2
+    returns-3)

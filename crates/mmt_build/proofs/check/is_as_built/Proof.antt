@@ -13,23 +13,21 @@ use Rattle.mmt_build.proofs.check.is_as_built.Tie as tie
 nodes : (c : tie.After-layout-of) → c .layout-of .result .leaves + c .layout-of .result .inner ≡ count (c .before .before .args .n) (c .before .before .args .block)
 nodes c = ap (λ (l : Layout). l .leaves + l .inner) (c .layout-of .ensures)
 
-layout-of-requires : tie.Need-layout-of-requires
-layout-of-requires c κs = search needs
-
 add-all : tie.Need-add-all
-add-all c = let e = nodes (c .before) in let s = c .before .before .before in omega (arith, count-small (s .args .n) (s .args .block) (s .pre .eight) (s .pre .short))
-
-table-requires : tie.Need-table-requires
-table-requires c κs = search needs
+add-all c =
+    let e = nodes (c .before) in let s = c .before .before .before in omega (arith, count-small (s .args .n) (s .args .block) (s .pre .eight) (s .pre .short))
 
 all-wanted-requires : tie.Need-all-wanted-requires
 all-wanted-requires c κs =
     let l = c .before .before .before in
     let e = nodes l in
-    (c .before .table .ensures, (l .before .before .pre, (ap (λ (x : Layout). x .inner) (l .layout-of .ensures), omega arith)))
+    record {
+      table = c .before .table .ensures;
+      laid = record { fine = l .before .before .pre; first-is = ap (λ (x : Layout). x .inner) (l .layout-of .ensures); all-is = omega arith };
+    }
 
 returns : tie.Need-returns
 returns c = c .all-wanted .ensures
 
 pub is-as-built-spec : {M : Type 1} → statement M
-is-as-built-spec = tie.close (tie.spec layout-of-requires add-all table-requires all-wanted-requires returns)
+is-as-built-spec = tie.close (tie.spec (λ c κs. search needs) add-all (λ c κs. search needs) all-wanted-requires returns)

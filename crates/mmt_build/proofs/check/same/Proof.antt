@@ -11,11 +11,11 @@ use Rattle.mmt_build.proofs.Tested.{firstTwo, two-agree, two-differ}
 use Rattle.mmt_build.proofs.check.same.Statement.{statement}
 use Rattle.mmt_build.proofs.check.same.Tie as tie
 
--- the start of the function, reached back from the first comparison
+-- from the first comparison back to the start of the function
 abbrev entry : tie.After-struct-told2 → tie.Start
 entry c = c .before .before .before .before
 
--- the point where the branches of the first two comparisons join
+-- the value after the first two comparisons is `firstTwo`, from either branch
 met : (c : tie.Joined1) → let a = entry (c .before) .args in c .if1 .if2 ≡ firstTwo (a .x) (a .y)
 met c =
     let a = entry (c .before) .args in

@@ -9,19 +9,10 @@ use Rattle.mmt_layout.proofs.Powers.{block-edge}
 use Rattle.mmt_build.proofs.rule.leaf_summary.Statement.{statement}
 use Rattle.mmt_build.proofs.rule.leaf_summary.Tie as tie
 
-mul-from : tie.Need-mul-from
-mul-from c = search needs
-
-add-earlier : tie.Need-add-earlier
-add-earlier c = search needs
-
-earlier-requires : tie.Need-earlier-requires
-earlier-requires c κs = search needs
-
 stretch-summary-requires : tie.Need-stretch-summary-requires
 stretch-summary-requires c κs =
     let s = c .before .before in
-    (s .pre .0, (record { order = omega arith; inside = omega arith; short = omega arith }, (block-edge (s .args .b) (s .args .block) (omega arith), omega arith)))
+    (s .pre .table, (record { order = omega arith; inside = omega arith; short = omega arith }, (block-edge (s .args .b) (s .args .block) (omega arith), omega arith)))
 
 returns : tie.Need-returns
 unfolding leafOf
@@ -32,4 +23,4 @@ returns c =
     rw e at (c .stretch-summary .ensures)
 
 pub leaf-summary-spec : {M : Type 1} → statement M
-leaf-summary-spec = tie.close (tie.spec mul-from add-earlier earlier-requires stretch-summary-requires returns)
+leaf-summary-spec = tie.close (tie.spec (λ c. search needs) (λ c. search needs) (λ c κs. search needs) stretch-summary-requires returns)

@@ -6,14 +6,11 @@ use Rattle.c_dispatch.proofs.Small.{answer-small, small-as, crossed}
 use Rattle.probe.proofs.word_level.bpw_level_leftmost.Statement.{statement}
 use Rattle.probe.proofs.word_level.bpw_level_leftmost.Tie as tie
 
-level-leftmost-requires : tie.Need-level-leftmost-requires
-level-leftmost-requires c κs = search needs
-
 found-requires : tie.Need-found-requires
-found-requires c κs = small-as (c .level-leftmost .ensures .0) (answer-small _ _ _ _ (LevelLeftmost _))
+found-requires c κs = small-as (c .level-leftmost .ensures .answer) (answer-small _ _ _ _ (LevelLeftmost _))
 
 returns : tie.Need-returns
-returns c = crossed (record { sfits = c .found .ok }) (c .found .ensures) (c .before .level-leftmost .ensures .0)
+returns c = crossed (record { sfits = c .found .ok }) (c .found .ensures) (c .before .level-leftmost .ensures .answer)
 
 pub bpw-level-leftmost-spec : {M : Type 1} → statement M
-bpw-level-leftmost-spec = tie.close (tie.spec level-leftmost-requires found-requires returns)
+bpw-level-leftmost-spec = tie.close (tie.spec (λ c κs. search needs) found-requires returns)

@@ -6,14 +6,11 @@ use Rattle.c_dispatch.proofs.Small.{answer-small, small-as, crossed}
 use Rattle.probe.proofs.word_level.bpw_level_next.Statement.{statement}
 use Rattle.probe.proofs.word_level.bpw_level_next.Tie as tie
 
-level-next-requires : tie.Need-level-next-requires
-level-next-requires c κs = search needs
-
 found-requires : tie.Need-found-requires
-found-requires c κs = small-as (c .level-next .ensures .0) (answer-small _ _ _ _ (LevelNext _))
+found-requires c κs = small-as (c .level-next .ensures .answer) (answer-small _ _ _ _ (LevelNext _))
 
 returns : tie.Need-returns
-returns c = crossed (record { sfits = c .found .ok }) (c .found .ensures) (c .before .level-next .ensures .0)
+returns c = crossed (record { sfits = c .found .ok }) (c .found .ensures) (c .before .level-next .ensures .answer)
 
 pub bpw-level-next-spec : {M : Type 1} → statement M
-bpw-level-next-spec = tie.close (tie.spec level-next-requires found-requires returns)
+bpw-level-next-spec = tie.close (tie.spec (λ c κs. search needs) found-requires returns)

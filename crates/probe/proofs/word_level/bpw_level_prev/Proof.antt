@@ -6,14 +6,11 @@ use Rattle.c_dispatch.proofs.Small.{answer-small, small-as, crossed}
 use Rattle.probe.proofs.word_level.bpw_level_prev.Statement.{statement}
 use Rattle.probe.proofs.word_level.bpw_level_prev.Tie as tie
 
-level-prev-requires : tie.Need-level-prev-requires
-level-prev-requires c κs = search needs
-
 found-requires : tie.Need-found-requires
-found-requires c κs = small-as (c .level-prev .ensures .0) (answer-small _ _ _ _ (LevelPrev _))
+found-requires c κs = small-as (c .level-prev .ensures .answer) (answer-small _ _ _ _ (LevelPrev _))
 
 returns : tie.Need-returns
-returns c = crossed (record { sfits = c .found .ok }) (c .found .ensures) (c .before .level-prev .ensures .0)
+returns c = crossed (record { sfits = c .found .ok }) (c .found .ensures) (c .before .level-prev .ensures .answer)
 
 pub bpw-level-prev-spec : {M : Type 1} → statement M
-bpw-level-prev-spec = tie.close (tie.spec level-prev-requires found-requires returns)
+bpw-level-prev-spec = tie.close (tie.spec (λ c κs. search needs) found-requires returns)

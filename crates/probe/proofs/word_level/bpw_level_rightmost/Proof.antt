@@ -6,14 +6,11 @@ use Rattle.c_dispatch.proofs.Small.{answer-small, small-as, crossed}
 use Rattle.probe.proofs.word_level.bpw_level_rightmost.Statement.{statement}
 use Rattle.probe.proofs.word_level.bpw_level_rightmost.Tie as tie
 
-level-rightmost-requires : tie.Need-level-rightmost-requires
-level-rightmost-requires c κs = search needs
-
 found-requires : tie.Need-found-requires
-found-requires c κs = small-as (c .level-rightmost .ensures .0) (answer-small _ _ _ _ (LevelRightmost _))
+found-requires c κs = small-as (c .level-rightmost .ensures .answer) (answer-small _ _ _ _ (LevelRightmost _))
 
 returns : tie.Need-returns
-returns c = crossed (record { sfits = c .found .ok }) (c .found .ensures) (c .before .level-rightmost .ensures .0)
+returns c = crossed (record { sfits = c .found .ok }) (c .found .ensures) (c .before .level-rightmost .ensures .answer)
 
 pub bpw-level-rightmost-spec : {M : Type 1} → statement M
-bpw-level-rightmost-spec = tie.close (tie.spec level-rightmost-requires found-requires returns)
+bpw-level-rightmost-spec = tie.close (tie.spec (λ c κs. search needs) found-requires returns)

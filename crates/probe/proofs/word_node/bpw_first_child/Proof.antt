@@ -7,9 +7,6 @@ use Rattle.c_dispatch.proofs.Small.{answer-small, small-as, crossed}
 use Rattle.probe.proofs.word_node.bpw_first_child.Statement.{statement}
 use Rattle.probe.proofs.word_node.bpw_first_child.Tie as tie
 
-first-child-requires : tie.Need-first-child-requires
-first-child-requires c κs = search needs
-
 found-requires : tie.Need-found-requires
 found-requires c κs = small-as (c .first-child .ensures) (answer-small _ _ [] 0 (FirstChild _))
 
@@ -17,4 +14,4 @@ returns : tie.Need-returns
 returns c = crossed (record { sfits = c .found .ok }) (c .found .ensures) (c .before .first-child .ensures)
 
 pub bpw-first-child-spec : {M : Type 1} → statement M
-bpw-first-child-spec = tie.close (tie.spec first-child-requires found-requires returns)
+bpw-first-child-spec = tie.close (tie.spec (λ c κs. search needs) found-requires returns)

@@ -6,14 +6,11 @@ use Rattle.c_dispatch.proofs.Small.{answer-small, small-as, crossed}
 use Rattle.probe.proofs.word_node.bpw_last_child.Statement.{statement}
 use Rattle.probe.proofs.word_node.bpw_last_child.Tie as tie
 
-last-child-requires : tie.Need-last-child-requires
-last-child-requires c κs = search needs
-
 found-requires : tie.Need-found-requires
-found-requires c κs = small-as (c .last-child .ensures .0) (answer-small _ _ _ _ (LastChild _))
+found-requires c κs = small-as (c .last-child .ensures .answer) (answer-small _ _ _ _ (LastChild _))
 
 returns : tie.Need-returns
-returns c = crossed (record { sfits = c .found .ok }) (c .found .ensures) (c .before .last-child .ensures .0)
+returns c = crossed (record { sfits = c .found .ok }) (c .found .ensures) (c .before .last-child .ensures .answer)
 
 pub bpw-last-child-spec : {M : Type 1} → statement M
-bpw-last-child-spec = tie.close (tie.spec last-child-requires found-requires returns)
+bpw-last-child-spec = tie.close (tie.spec (λ c κs. search needs) found-requires returns)

@@ -6,14 +6,11 @@ use Rattle.c_dispatch.proofs.Small.{answer-small, small-as, crossed}
 use Rattle.probe.proofs.word_node.bpw_next_sibling.Statement.{statement}
 use Rattle.probe.proofs.word_node.bpw_next_sibling.Tie as tie
 
-next-sibling-requires : tie.Need-next-sibling-requires
-next-sibling-requires c κs = search needs
-
 found-requires : tie.Need-found-requires
-found-requires c κs = small-as (c .next-sibling .ensures .0) (answer-small _ _ _ _ (NextSibling _))
+found-requires c κs = small-as (c .next-sibling .ensures .answer) (answer-small _ _ _ _ (NextSibling _))
 
 returns : tie.Need-returns
-returns c = crossed (record { sfits = c .found .ok }) (c .found .ensures) (c .before .next-sibling .ensures .0)
+returns c = crossed (record { sfits = c .found .ok }) (c .found .ensures) (c .before .next-sibling .ensures .answer)
 
 pub bpw-next-sibling-spec : {M : Type 1} → statement M
-bpw-next-sibling-spec = tie.close (tie.spec next-sibling-requires found-requires returns)
+bpw-next-sibling-spec = tie.close (tie.spec (λ c κs. search needs) found-requires returns)

@@ -6,14 +6,11 @@ use Rattle.c_dispatch.proofs.Small.{answer-small, small-as, crossed}
 use Rattle.probe.proofs.word_node.bpw_parent.Statement.{statement}
 use Rattle.probe.proofs.word_node.bpw_parent.Tie as tie
 
-parent-requires : tie.Need-parent-requires
-parent-requires c κs = search needs
-
 found-requires : tie.Need-found-requires
-found-requires c κs = small-as (c .parent .ensures .0) (answer-small _ _ _ _ (Parent _))
+found-requires c κs = small-as (c .parent .ensures .answer) (answer-small _ _ _ _ (Parent _))
 
 returns : tie.Need-returns
-returns c = crossed (record { sfits = c .found .ok }) (c .found .ensures) (c .before .parent .ensures .0)
+returns c = crossed (record { sfits = c .found .ok }) (c .found .ensures) (c .before .parent .ensures .answer)
 
 pub bpw-parent-spec : {M : Type 1} → statement M
-bpw-parent-spec = tie.close (tie.spec parent-requires found-requires returns)
+bpw-parent-spec = tie.close (tie.spec (λ c κs. search needs) found-requires returns)

@@ -6,14 +6,11 @@ use Rattle.c_dispatch.proofs.Small.{answer-small, small-as, crossed}
 use Rattle.probe.proofs.word_node.bpw_previous_sibling.Statement.{statement}
 use Rattle.probe.proofs.word_node.bpw_previous_sibling.Tie as tie
 
-previous-sibling-requires : tie.Need-previous-sibling-requires
-previous-sibling-requires c κs = search needs
-
 found-requires : tie.Need-found-requires
-found-requires c κs = small-as (c .previous-sibling .ensures .0) (answer-small _ _ _ _ (PreviousSibling _))
+found-requires c κs = small-as (c .previous-sibling .ensures .answer) (answer-small _ _ _ _ (PreviousSibling _))
 
 returns : tie.Need-returns
-returns c = crossed (record { sfits = c .found .ok }) (c .found .ensures) (c .before .previous-sibling .ensures .0)
+returns c = crossed (record { sfits = c .found .ok }) (c .found .ensures) (c .before .previous-sibling .ensures .answer)
 
 pub bpw-previous-sibling-spec : {M : Type 1} → statement M
-bpw-previous-sibling-spec = tie.close (tie.spec previous-sibling-requires found-requires returns)
+bpw-previous-sibling-spec = tie.close (tie.spec (λ c κs. search needs) found-requires returns)

@@ -7,9 +7,6 @@ use Rattle.c_dispatch.proofs.Small.{answer-small, small-as, crossed}
 use Rattle.probe.proofs.word_node.bpw_root.Statement.{statement}
 use Rattle.probe.proofs.word_node.bpw_root.Tie as tie
 
-root-requires : tie.Need-root-requires
-root-requires c κs = search needs
-
 found-requires : tie.Need-found-requires
 found-requires c κs = small-as (c .root .ensures) (answer-small (c .before .before .args .words .now) _ [] 0 Root)
 
@@ -17,4 +14,4 @@ returns : tie.Need-returns
 returns c = crossed (record { sfits = c .found .ok }) (c .found .ensures) (c .before .root .ensures)
 
 pub bpw-root-spec : {M : Type 1} → statement M
-bpw-root-spec = tie.close (tie.spec root-requires found-requires returns)
+bpw-root-spec = tie.close (tie.spec (λ c κs. search needs) found-requires returns)

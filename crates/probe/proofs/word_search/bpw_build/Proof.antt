@@ -5,19 +5,10 @@ use Rattle.c_dispatch.proofs.Small.{crossed}
 use Rattle.probe.proofs.word_search.bpw_build.Statement.{statement}
 use Rattle.probe.proofs.word_search.bpw_build.Tie as tie
 
-build-requires : tie.Need-build-requires
-build-requires c κs = search needs
-
-built-requires : tie.Need-built-requires
-built-requires c κs = search needs
-
-same-length : tie.Need-same-length
-same-length c = search needs
-
 returns : tie.Need-returns
 returns c =
     let b = c .before .before .build .ensures in
-    (crossed (record { sfits = c .built .ok }) (c .built .ensures) (b .0), b .1)
+    record { answer = crossed (record { sfits = c .built .ok }) (c .built .ensures) (b .answer); slice = b .slice }
 
 pub bpw-build-spec : {M : Type 1} → statement M
-bpw-build-spec = tie.close (tie.spec build-requires built-requires same-length returns)
+bpw-build-spec = tie.close (tie.spec (λ c κs. search needs) (λ c κs. search needs) (λ c. search needs) returns)

@@ -8,18 +8,15 @@ use Rattle.c_dispatch.proofs.Small.{answer-small, small-as, crossed}
 use Rattle.probe.proofs.word_search.bpw_bwd_search.Statement.{statement}
 use Rattle.probe.proofs.word_search.bpw_bwd_search.Tie as tie
 
-bwd-search-requires : tie.Need-bwd-search-requires
-bwd-search-requires c κs = search needs
-
 found-requires : tie.Need-found-requires
 found-requires c κs =
-    small-as (rw (toZ-ofZ w64 _ (c .before .before .fits .r)) at (c .bwd-search .ensures .0))
+    small-as (rw (toZ-ofZ w64 _ (c .before .before .fits .r)) at (c .bwd-search .ensures .answer))
     (answer-small _ _ _ _ (BwdSearch _ _))
 
 returns : tie.Need-returns
 returns c =
     crossed (record { sfits = c .found .ok }) (c .found .ensures)
-    (rw (toZ-ofZ w64 _ (c .before .before .before .fits .r)) at (c .before .bwd-search .ensures .0))
+    (rw (toZ-ofZ w64 _ (c .before .before .before .fits .r)) at (c .before .bwd-search .ensures .answer))
 
 pub bpw-bwd-search-spec : {M : Type 1} → statement M
-bpw-bwd-search-spec = tie.close (tie.spec bwd-search-requires found-requires returns)
+bpw-bwd-search-spec = tie.close (tie.spec (λ c κs. search needs) found-requires returns)

@@ -6,14 +6,11 @@ use Rattle.c_dispatch.proofs.Small.{answer-small, small-as, crossed}
 use Rattle.probe.proofs.word_search.bpw_close.Statement.{statement}
 use Rattle.probe.proofs.word_search.bpw_close.Tie as tie
 
-close-requires : tie.Need-close-requires
-close-requires c κs = search needs
-
 found-requires : tie.Need-found-requires
-found-requires c κs = small-as (c .close .ensures .0) (answer-small _ _ _ _ (Close _))
+found-requires c κs = small-as (c .close .ensures .answer) (answer-small _ _ _ _ (Close _))
 
 returns : tie.Need-returns
-returns c = crossed (record { sfits = c .found .ok }) (c .found .ensures) (c .before .close .ensures .0)
+returns c = crossed (record { sfits = c .found .ok }) (c .found .ensures) (c .before .close .ensures .answer)
 
 pub bpw-close-spec : {M : Type 1} → statement M
-bpw-close-spec = tie.close (tie.spec close-requires found-requires returns)
+bpw-close-spec = tie.close (tie.spec (λ c κs. search needs) found-requires returns)

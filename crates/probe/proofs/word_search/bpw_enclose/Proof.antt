@@ -6,14 +6,11 @@ use Rattle.c_dispatch.proofs.Small.{answer-small, small-as, crossed}
 use Rattle.probe.proofs.word_search.bpw_enclose.Statement.{statement}
 use Rattle.probe.proofs.word_search.bpw_enclose.Tie as tie
 
-enclose-requires : tie.Need-enclose-requires
-enclose-requires c κs = search needs
-
 found-requires : tie.Need-found-requires
-found-requires c κs = small-as (c .enclose .ensures .0) (answer-small _ _ _ _ (Enclose _))
+found-requires c κs = small-as (c .enclose .ensures .answer) (answer-small _ _ _ _ (Enclose _))
 
 returns : tie.Need-returns
-returns c = crossed (record { sfits = c .found .ok }) (c .found .ensures) (c .before .enclose .ensures .0)
+returns c = crossed (record { sfits = c .found .ok }) (c .found .ensures) (c .before .enclose .ensures .answer)
 
 pub bpw-enclose-spec : {M : Type 1} → statement M
-bpw-enclose-spec = tie.close (tie.spec enclose-requires found-requires returns)
+bpw-enclose-spec = tie.close (tie.spec (λ c κs. search needs) found-requires returns)

@@ -8,18 +8,15 @@ use Rattle.c_dispatch.proofs.Small.{answer-small, small-as, crossed}
 use Rattle.probe.proofs.word_search.bpw_fwd_search.Statement.{statement}
 use Rattle.probe.proofs.word_search.bpw_fwd_search.Tie as tie
 
-fwd-search-requires : tie.Need-fwd-search-requires
-fwd-search-requires c κs = search needs
-
 found-requires : tie.Need-found-requires
 found-requires c κs =
-    small-as (rw (toZ-ofZ w64 _ (c .before .before .fits .r)) at (c .fwd-search .ensures .0))
+    small-as (rw (toZ-ofZ w64 _ (c .before .before .fits .r)) at (c .fwd-search .ensures .answer))
     (answer-small _ _ _ _ (FwdSearch _ _))
 
 returns : tie.Need-returns
 returns c =
     crossed (record { sfits = c .found .ok }) (c .found .ensures)
-    (rw (toZ-ofZ w64 _ (c .before .before .before .fits .r)) at (c .before .fwd-search .ensures .0))
+    (rw (toZ-ofZ w64 _ (c .before .before .before .fits .r)) at (c .before .fwd-search .ensures .answer))
 
 pub bpw-fwd-search-spec : {M : Type 1} → statement M
-bpw-fwd-search-spec = tie.close (tie.spec fwd-search-requires found-requires returns)
+bpw-fwd-search-spec = tie.close (tie.spec (λ c κs. search needs) found-requires returns)

@@ -6,14 +6,11 @@ use Rattle.c_dispatch.proofs.Small.{answer-small, small-as, crossed}
 use Rattle.probe.proofs.word_search.bpw_open.Statement.{statement}
 use Rattle.probe.proofs.word_search.bpw_open.Tie as tie
 
-open-requires : tie.Need-open-requires
-open-requires c κs = search needs
-
 found-requires : tie.Need-found-requires
-found-requires c κs = small-as (c .open .ensures .0) (answer-small _ _ _ _ (Open _))
+found-requires c κs = small-as (c .open .ensures .answer) (answer-small _ _ _ _ (Open _))
 
 returns : tie.Need-returns
-returns c = crossed (record { sfits = c .found .ok }) (c .found .ensures) (c .before .open .ensures .0)
+returns c = crossed (record { sfits = c .found .ok }) (c .found .ensures) (c .before .open .ensures .answer)
 
 pub bpw-open-spec : {M : Type 1} → statement M
-bpw-open-spec = tie.close (tie.spec open-requires found-requires returns)
+bpw-open-spec = tie.close (tie.spec (λ c κs. search needs) found-requires returns)

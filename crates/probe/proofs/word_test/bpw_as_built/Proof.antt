@@ -5,14 +5,8 @@ use Rattle.c_dispatch.proofs.Small.{crossed}
 use Rattle.probe.proofs.word_test.bpw_as_built.Statement.{statement}
 use Rattle.probe.proofs.word_test.bpw_as_built.Tie as tie
 
-as-built-requires : tie.Need-as-built-requires
-as-built-requires c κs = search needs
-
-told-requires : tie.Need-told-requires
-told-requires c κs = search needs
-
 returns : tie.Need-returns
-returns c = crossed (record { sfits = c .told .ok }) (c .told .ensures) (c .before .as-built .ensures .0)
+returns c = crossed (record { sfits = c .told .ok }) (c .told .ensures) (c .before .as-built .ensures .answer)
 
 pub bpw-as-built-spec : {M : Type 1} → statement M
-bpw-as-built-spec = tie.close (tie.spec as-built-requires told-requires returns)
+bpw-as-built-spec = tie.close (tie.spec (λ c κs. search needs) (λ c κs. search needs) returns)

@@ -5,14 +5,8 @@ use Rattle.c_dispatch.proofs.Small.{crossed}
 use Rattle.probe.proofs.word_test.bpw_one_tree.Statement.{statement}
 use Rattle.probe.proofs.word_test.bpw_one_tree.Tie as tie
 
-one-tree-requires : tie.Need-one-tree-requires
-one-tree-requires c κs = search needs
-
-told-requires : tie.Need-told-requires
-told-requires c κs = search needs
-
 returns : tie.Need-returns
-returns c = crossed (record { sfits = c .told .ok }) (c .told .ensures) (c .before .one-tree .ensures .0)
+returns c = crossed (record { sfits = c .told .ok }) (c .told .ensures) (c .before .one-tree .ensures .answer)
 
 pub bpw-one-tree-spec : {M : Type 1} → statement M
-bpw-one-tree-spec = tie.close (tie.spec one-tree-requires told-requires returns)
+bpw-one-tree-spec = tie.close (tie.spec (λ c κs. search needs) (λ c κs. search needs) returns)

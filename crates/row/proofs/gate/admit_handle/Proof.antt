@@ -9,9 +9,6 @@ use Rattle.row.proofs.gate.admit_handle.Tie as tie
 returns : tie.Need-returns
 returns c = handle-past _ _ _ (c .if1 .taken)
 
-opens-at-requires : tie.Need-opens-at-requires
-opens-at-requires c κs = search needs
-
 returns-2 : tie.Need-returns-2
 returns-2 c = handle-passed _ _ _ (omega arith) (sym (c .before .opens-at .ensures) ∙ c .if2 .taken)
 
@@ -19,4 +16,4 @@ returns-3 : tie.Need-returns-3
 returns-3 c = handle-refused _ _ _ (omega arith) (sym (c .before .opens-at .ensures) ∙ c .if2 .left)
 
 pub admit-handle-spec : {M : Type 1} → statement M
-admit-handle-spec = tie.close (tie.spec returns opens-at-requires returns-2 returns-3)
+admit-handle-spec = tie.close (tie.spec returns (λ c κs. search needs) returns-2 returns-3)

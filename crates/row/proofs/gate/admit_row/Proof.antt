@@ -8,9 +8,6 @@ use Rattle.row.proofs.gate.admit_row.Tie as tie
 returns : tie.Need-returns
 returns c = row-many _ _ (c .if1 .taken)
 
-words-for-requires : tie.Need-words-for-requires
-words-for-requires c κs = search needs
-
 returns-2 : tie.Need-returns-2
 returns-2 c = row-few _ _ (omega arith) (omega arith)
 
@@ -18,4 +15,4 @@ returns-3 : tie.Need-returns-3
 returns-3 c = row-passed _ _ (omega arith) (omega arith)
 
 pub admit-row-spec : {M : Type 1} → statement M
-admit-row-spec = tie.close (tie.spec returns words-for-requires returns-2 returns-3)
+admit-row-spec = tie.close (tie.spec returns (λ c κs. search needs) returns-2 returns-3)

@@ -1,4 +1,5 @@
--- `test_calls::families` is safe and ends: the positions left fall. Assumes nothing.
+-- `test_calls::outlines::families` prints the children of some positions. The loop needs no invariant; its measure is the positions left.
+-- Assumes nothing.
 use Prim.Native.Nat.{_-_}
 use borrow.Author.Needs.{needs}
 use native.Mathlib.Omega.{arith}
@@ -14,23 +15,11 @@ abbrev μ-loop : tie.MeasureT-loop
 loop-holds : tie.Need-loop-holds Inv-loop μ-loop
 loop-holds c = tt
 
-children-requires : tie.Need-children-requires Inv-loop μ-loop
-children-requires c κs = search needs
-
-children-requires-2 : tie.Need-children-requires-2 Inv-loop μ-loop
-children-requires-2 c κs = search needs
-
-add-v : tie.Need-add-v Inv-loop μ-loop
-add-v c = search needs
-
 loop-less : tie.Need-loop-less Inv-loop μ-loop
 loop-less c = omega arith
 
 loop-again : tie.Need-loop-again Inv-loop μ-loop
 loop-again c = tt
-
-returns : tie.Need-returns Inv-loop μ-loop
-returns c = search needs
 
 pub families-spec : {M : Type 1} → statement M
 families-spec =
@@ -39,9 +28,9 @@ families-spec =
     Inv-loop
     μ-loop
     loop-holds
-    children-requires
-    children-requires-2
-    add-v
+    (λ c κs. search needs)
+    (λ c κs. search needs)
+    (λ c. search needs)
     loop-less
     loop-again
-    returns)
+    (λ c. search needs))

@@ -1,4 +1,4 @@
--- `test_rows::say_words` is safe and ends. The loop's invariant: i is at most the length; the measure is what is left of it.
+-- `test_rows::rows::say_words` prints words, one per line. Invariant of the loop: i is at most the number of words. Measure: the words left.
 -- Assumes nothing.
 use Prim.Native.Nat.{_-_, _≤_}
 use lib.ListN.{length}
@@ -12,41 +12,17 @@ Inv-loop words i₀ i = i ≤ length words
 abbrev μ-loop : tie.MeasureT-loop
 μ-loop words i₀ i = length words - i
 
-loop-holds : tie.Need-loop-holds Inv-loop μ-loop
-loop-holds c = search needs
-
-mul-say-word : tie.Need-mul-say-word Inv-loop μ-loop
-mul-say-word c = search needs
-
-shared-slice-read-say-word : tie.Need-shared-slice-read-say-word Inv-loop μ-loop
-shared-slice-read-say-word c = search needs
-
-say-word-requires : tie.Need-say-word-requires Inv-loop μ-loop
-say-word-requires c κs = search needs
-
-add-i : tie.Need-add-i Inv-loop μ-loop
-add-i c = search needs
-
-loop-less : tie.Need-loop-less Inv-loop μ-loop
-loop-less c = search needs
-
-loop-again : tie.Need-loop-again Inv-loop μ-loop
-loop-again c = search needs
-
-returns : tie.Need-returns Inv-loop μ-loop
-returns c = search needs
-
 pub say-words-spec : {M : Type 1} → statement M
 say-words-spec =
     tie.close
     (tie.spec
     Inv-loop
     μ-loop
-    loop-holds
-    mul-say-word
-    shared-slice-read-say-word
-    say-word-requires
-    add-i
-    loop-less
-    loop-again
-    returns)
+    (λ c. search needs)
+    (λ c. search needs)
+    (λ c. search needs)
+    (λ c κs. search needs)
+    (λ c. search needs)
+    (λ c. search needs)
+    (λ c. search needs)
+    (λ c. search needs))

@@ -1,5 +1,5 @@
--- `climb::backward::right_above` meets its contract. The loop's invariant: a climb goes on from node j as from node k. The measure is j. Assumes
--- nothing.
+-- `walk_climb::backward::right_above` goes up past left children. Loop invariant: a climb from node j has the result of a climb from node k, and
+-- needs no more room. Measure: j. Assumes nothing.
 use Prim.Native.Nat.{_%_}
 use native.Mathlib.Omega.{arith}
 use borrow.Author.Tests.{eq-eqb, ne-eqb}
@@ -34,7 +34,7 @@ loop-again c =
     rises-on backward (a .k) (a .h) (l .loop .j) (l .loop .g) (l .loop .inv) (λ z. omega arith) (eq-eqb (l .loop .j % 2) 1 (c .loop-test .taken))
 
 returns : tie.Need-returns Inv-loop μ-loop
-returns c = let l = c .before in (l .loop .inv, λ z. ne-eqb (l .loop .j % 2) 1 (c .loop-test .left))
+returns c = let l = c .before in record { rises = l .loop .inv; sibling = λ z. ne-eqb (l .loop .j % 2) 1 (c .loop-test .left) }
 
 pub right-above-spec : {M : Type 1} → statement M
 right-above-spec =

@@ -1,5 +1,5 @@
--- `climb::forward::left_above` meets its contract. The loop's invariant: a climb goes on from node j as from node k. The measure is j. Assumes
--- nothing.
+-- `walk_climb::forward::left_above` goes up past right children. Loop invariant: a climb from node j has the result of a climb from node k, and
+-- needs no more room. Measure: j. Assumes nothing.
 use native.Mathlib.Omega.{arith}
 use Rattle.row.specs.Way.{forward}
 use Rattle.walk_climb.specs.Climbed.{Rises}
@@ -32,10 +32,10 @@ loop-again c =
     rises-on forward (a .k) (a .h) (l .loop .j) (l .loop .g) (l .loop .inv) (λ z. omega arith) (c .if1 .taken)
 
 returns : tie.Need-returns Inv-loop μ-loop
-returns c = (c .before .before .loop .inv, λ z. c .if1 .left)
+returns c = record { rises = c .before .before .loop .inv; sibling = λ z. c .if1 .left }
 
 returns-2 : tie.Need-returns-2 Inv-loop μ-loop
-returns-2 c = (c .before .loop .inv, λ z. absurd (z (omega arith)))
+returns-2 c = record { rises = c .before .loop .inv; sibling = λ z. absurd (z (omega arith)) }
 
 pub left-above-spec : {M : Type 1} → statement M
 left-above-spec =

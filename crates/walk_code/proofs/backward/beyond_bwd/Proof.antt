@@ -1,4 +1,5 @@
--- `walking::backward::beyond_bwd` meets its contract: what climb, descent and leaf answer, each return by one law. Assumes nothing.
+-- `walk_code::backward::beyond_bwd` makes the climb, the descent and the scan of the target block. Each return is one law of Answers.antt,
+-- which needs the results of climb and descent. Assumes nothing.
 use mathlib.Core.Path.{_≡_, sym, _∙_}
 use Prim.Native.Nat.{_+_, _≤_, _<_}
 use native.Mathlib.Omega.{arith}
@@ -19,7 +20,7 @@ use Rattle.walk_code.proofs.Answers.{Laid, laid-out, start-room, turn-t
 use Rattle.walk_code.proofs.backward.beyond_bwd.Statement.{statement}
 use Rattle.walk_code.proofs.backward.beyond_bwd.Tie as tie
 
--- ---- back from the leaf reached: where the climb turned, where it started, and the entry
+-- ---- back from the block leaf reached: where the climb turned, where it started, and the start of the function
 abbrev turned : tie.After-j → tie.After-k
 turned c = c .before .before .before .before
 
@@ -33,11 +34,8 @@ entry c = started c .before .before .before
 laid : (c : tie.After-struct-known) → (let a = c .before .before .before .args in Laid (a .n) (a .block) (a .b) (c .before .layout-of .result))
 laid c =
     let s = c .before .before .before in
-    let f = s .pre .1 .0 in
-    laid-out (s .args .n) (s .args .block) (s .args .b) (f .eight) (f .short) (s .pre .1 .1 .0) (c .before .layout-of .result) (c .before .layout-of .ensures)
-
-layout-of-requires : tie.Need-layout-of-requires
-layout-of-requires c κs = search needs
+    let f = s .pre .fine in
+    laid-out (s .args .n) (s .args .block) (s .args .b) (f .eight) (f .short) (s .pre .begins) (c .before .layout-of .result) (c .before .layout-of .ensures)
 
 add-all : tie.Need-add-all
 add-all c = let l = laid c in omega arith
@@ -50,14 +48,11 @@ climb-bwd-requires c κs =
     let l = laid c in
     let s = c .before .before .before in
     let a = s .args in
-    let f = s .pre .1 .0 in
-    let o = start-room backward (a .words .now) (a .n) (a .nodes .now) (a .block) (a .b) (a .r) (f .eight) (f .short) (s .pre .1 .1 .0) (s .pre .1 .1 .1) in
+    let f = s .pre .fine in
+    let o = start-room backward (a .words .now) (a .n) (a .nodes .now) (a .block) (a .b) (a .r) (f .eight) (f .short) (s .pre .begins) (s .pre .near) in
     rw (toZ-ofZ w64 _ (s .fits .r)) (omega (arith, f .nodes))
 
-enum-known-k : tie.Need-enum-known-k
-enum-known-k c = search needs
-
--- ---- what the climb answers, and what is known of the node turned to
+-- ---- the result of the climb, and the node that it turns to
 climbed : (c : tie.After-climb-bwd) → (let a = c .before .before .before .before .args in
     c .climb-bwd .result ≡ climbedOf (climb backward (count (a .n) (a .block)) (a .nodes .now) (inner (a .n) (a .block) + a .b) 0 (inner (a .n) (a .block) + a .b) (a .r) 0))
 climbed c =
@@ -70,9 +65,9 @@ there c =
     let n = c .before .before in
     let s = entry c in
     let a = s .args in
-    let f = s .pre .1 .0 in
+    let f = s .pre .fine in
     let k = c .k .given .0 in
-    turn-there backward (a .words .now) (a .n) (a .nodes .now) (a .block) (a .b) (a .r) (f .eight) (f .short) (s .pre .1 .1 .0) (s .pre .1 .1 .1) (k .0) (k .1 .0) (k .1 .1 .0) (sym (climbed n) ∙ c .k .given .1)
+    turn-there backward (a .words .now) (a .n) (a .nodes .now) (a .block) (a .b) (a .r) (f .eight) (f .short) (s .pre .begins) (s .pre .near) (k .0) (k .1 .0) (k .1 .1 .0) (sym (climbed n) ∙ c .k .given .1)
 
 descend-bwd-requires : tie.Need-descend-bwd-requires
 descend-bwd-requires c κs =
@@ -82,13 +77,10 @@ descend-bwd-requires c κs =
     let i = t .0 in
     let o = t .2 in
     let k = e .k .given .0 in
-    let f = entry e .pre .1 .0 in
+    let f = entry e .pre .fine in
     rw (toZ-ofZ w64 _ (room-fits (k .1 .0) (k .1 .1 .0) o)) (omega (arith, f .nodes))
 
-enum-known-j : tie.Need-enum-known-j
-enum-known-j c = search needs
-
--- ---- what the descent answers, and what is known of the leaf reached
+-- ---- the result of the descent, and the block leaf that it reaches
 descended : (c : tie.After-descend-bwd) → (let e = c .before .before in let a = entry e .args in let k = e .k .given .0 in
     c .descend-bwd .result ≡ descendedOf (descend backward (count (a .n) (a .block)) (a .nodes .now) (k .1 .0) (k .0) (k .1 .1 .0) 0))
 descended c =
@@ -104,10 +96,10 @@ landing c =
     let n = e .before .before in
     let s = entry e in
     let a = s .args in
-    let f = s .pre .1 .0 in
+    let f = s .pre .fine in
     let k = e .k .given .0 in
     let j = c .j .given .0 in
-    leaf-there backward (a .words .now) (a .n) (a .nodes .now) (a .block) (a .b) (a .r) (f .eight) (f .short) (s .pre .1 .1 .0) (s .pre .1 .1 .1) (k .0) (k .1 .0) (k .1 .1 .0) (sym (climbed n) ∙ e .k .given .1) (j .0) (j .1 .0) (sym (descended d) ∙ c .j .given .1)
+    leaf-there backward (a .words .now) (a .n) (a .nodes .now) (a .block) (a .b) (a .r) (f .eight) (f .short) (s .pre .begins) (s .pre .near) (k .0) (k .1 .0) (k .1 .1 .0) (sym (climbed n) ∙ e .k .given .1) (j .0) (j .1 .0) (sym (descended d) ∙ c .j .given .1)
 
 leaf-bwd-requires : tie.Need-leaf-bwd-requires
 leaf-bwd-requires c κs =
@@ -118,16 +110,8 @@ leaf-bwd-requires c κs =
     let i = y .0 in
     let j = y .1 in
     let p = entry e .pre in
-    rw (toZ-ofZ w64 _ (room-fits 0 (g .j .given .0 .1 .0) (y .2))) (p .0, (p .1 .0, ((l .first, omega arith, j), y .2)))
-
-enum-told : tie.Need-enum-told
-enum-told c = search needs
-
-enum-told-2 : tie.Need-enum-told-2
-enum-told-2 c = search needs
-
-enum-told-3 : tie.Need-enum-told-3
-enum-told-3 c = search needs
+    rw (toZ-ofZ w64 _ (room-fits 0 (g .j .given .0 .1 .0) (y .2)))
+    (record { table = p .table; fine = p .fine; first-is = l .first; leaf = omega arith; inside = j; room = y .2 })
 
 -- ---- the answers
 returns : tie.Need-returns
@@ -167,17 +151,17 @@ pub beyond-bwd-spec : {M : Type 1} → statement M
 beyond-bwd-spec =
     tie.close
     (tie.spec
-    layout-of-requires
+    (λ c κs. search needs)
     add-all
     add-climb-bwd
     climb-bwd-requires
-    enum-known-k
+    (λ c. search needs)
     descend-bwd-requires
-    enum-known-j
+    (λ c. search needs)
     leaf-bwd-requires
-    enum-told
-    enum-told-2
-    enum-told-3
+    (λ c. search needs)
+    (λ c. search needs)
+    (λ c. search needs)
     returns
     returns-2
     returns-3

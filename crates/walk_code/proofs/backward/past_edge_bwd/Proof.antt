@@ -1,5 +1,5 @@
--- `walking::backward::past_edge_bwd` meets its contract: the rest of the starting block holds the position, or leaves what is sought beyond. Assumes
--- nothing.
+-- `walk_code::backward::past_edge_bwd` scans the rest of the start block. A hit is the answer; without one the walk goes on with the remainder
+-- that is left. Assumes nothing.
 use mathlib.Core.Path.{_≡_, sym, _∙_}
 use Prim.Native.Nat.{_+_, _-_, _*_, _≤_}
 use native.Mathlib.Omega.{arith}
@@ -19,42 +19,30 @@ use Rattle.walk_code.proofs.Answers.{start-hit, start-left}
 use Rattle.walk_code.proofs.backward.past_edge_bwd.Statement.{statement}
 use Rattle.walk_code.proofs.backward.past_edge_bwd.Tie as tie
 
--- back from the answer of the scan: where the table is made, and the entry
+-- from the result of the scan back to the state after the lookup table is created
 abbrev made : tie.After-bwd-search-block → tie.After-t
 made c = c .before
 
+-- from there back to the start of the function
 abbrev entry : tie.After-t → tie.Start
 entry c = c .before .before .before
-
-table-requires : tie.Need-table-requires
-table-requires c κs = search needs
-
-mul-bwd-search-block : tie.Need-mul-bwd-search-block
-mul-bwd-search-block c = search needs
 
 bwd-search-block-requires : tie.Need-bwd-search-block-requires
 bwd-search-block-requires c κs =
     let s = entry c in
-    let f = s .pre .0 in (
-      c .before .table .ensures,
-      (
-        record { order = omega arith; inside = omega (arith, f .words); short = omega (arith, f .short) },
-        rw (toZ-ofZ w64 _ (s .fits .r)) (omega arith),
-      ),
-    )
+    let f = s .pre .fine in
+    record {
+      table = c .before .table .ensures;
+      bits = record { order = omega arith; inside = omega (arith, f .words); short = omega (arith, f .short) };
+      room = rw (toZ-ofZ w64 _ (s .fits .r)) (omega arith);
+    }
 
-enum-known-j : tie.Need-enum-known-j
-enum-known-j c = search needs
-
-enum-known-q : tie.Need-enum-known-q
-enum-known-q c = search needs
-
--- what the scan read
+-- the result of the scan
 read : (c : tie.After-bwd-search-block) → (let a = entry (made c) .args in
     c .bwd-search-block .result ≡ scan backward (bitAt (a .words .now)) (a .edge - a .b * a .block) (a .b * a .block) (a .r))
 read c = rw (toZ-ofZ w64 _ (entry (made c) .fits .r)) at (c .bwd-search-block .ensures)
 
--- what it leaves
+-- the size of the remainder that the scan leaves
 left : (c : tie.After-q) → size (c .q .given .0 .0) ≤ (maxBits + maxBlock)
 left c =
     let n = c .before .before in
@@ -62,7 +50,7 @@ left c =
     let a = s .args in
     let z = scan-size backward (bitAt (a .words .now)) (a .edge - a .b * a .block) (a .b * a .block) (a .r) (c .q .given .0 .0)
     (sym (read n) ∙ c .q .given .1) in
-    omega (arith, s .pre .1)
+    omega (arith, s .pre .near)
 
 fits : (c : tie.After-q) → SFits w64 (c .q .given .0 .0)
 fits c = omega (zsum, left c)
@@ -72,7 +60,8 @@ beyond-bwd-requires c κs =
     let g = c .before .before in
     let t = made (g .before .before) in
     let s = entry t in
-    rw (toZ-ofZ w64 _ (fits g)) (t .before .table .ensures, (s .pre .0, (s .pre .1 .0, left g)))
+    rw (toZ-ofZ w64 _ (fits g))
+    (record { table = t .before .table .ensures; fine = s .pre .fine; begins = s .pre .begins; near = left g })
 
 returns : tie.Need-returns
 returns c =
@@ -92,11 +81,11 @@ pub past-edge-bwd-spec : {M : Type 1} → statement M
 past-edge-bwd-spec =
     tie.close
     (tie.spec
-    table-requires
-    mul-bwd-search-block
+    (λ c κs. search needs)
+    (λ c. search needs)
     bwd-search-block-requires
-    enum-known-j
-    enum-known-q
+    (λ c. search needs)
+    (λ c. search needs)
     beyond-bwd-requires
     returns
     returns-2)

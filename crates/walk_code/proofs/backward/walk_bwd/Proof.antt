@@ -1,4 +1,5 @@
--- `walking::backward::walk_bwd` meets its contract: the ends, the test of |r| > n, the bits up to a byte's edge, and what lies past it. Assumes nothing.
+-- `walk_code::backward::walk_bwd` walks backward from position i for the difference r. Its returns are: nothing because of i, nothing because
+-- |r| > n, a hit in the bits up to a byte boundary (the edge), and the answer of the walk beyond it. Assumes nothing.
 use mathlib.Core.Path.{_≡_, _∙_}
 use mathlib.Core.Bool.{false}
 use Prim.Native.Nat.{_-_, _*_, _/_, _≤_, _<_}
@@ -21,20 +22,23 @@ use Rattle.walk_code.proofs.Answers.{less-fits, far-over, far-under, fa
 use Rattle.walk_code.proofs.backward.walk_bwd.Statement.{statement}
 use Rattle.walk_code.proofs.backward.walk_bwd.Tie as tie
 
--- back from the answer of the edge's scan: where the tests of r are passed, where the walk's ends are, and the entry
+-- from the scan up to the edge back to the state after the tests of r
 abbrev tested : tie.After-edge-bwd → tie.Else4
 tested c = c .before
 
+-- from there back to the state after the tests of i
 abbrev within : tie.Else4 → tie.Else2
 within c = c .before .before
 
+-- from there back to the start of the function
 abbrev entry : tie.Else2 → tie.Start
 entry c = c .before .before .before
 
--- the walk does not end at once, and r is not further than all bits go
+-- the walk does not end at once
 ended : (c : tie.Else2) → endsAtOnce backward (entry c .args .n) (entry c .args .i) ≡ false
 ended c = let a = entry c .args in rw (ne-eqb (a .i) 0 (c .before .if1 .left), lt-leb (a .n) (a .i) (c .if2 .left))
 
+-- |r| is at most n
 near : (c : tie.Else4) → (let a = entry (within c) .args in size (a .r) ≤ a .n)
 near c =
     let s = entry (within c) in
@@ -49,9 +53,6 @@ returns-2 : tie.Need-returns-2
 returns-2 c =
     let a = c .before .before .before .args in
     walk-end backward (a .words .now) (a .n) (a .nodes .now) (a .block) (a .i) (a .r) (rw (ne-eqb (a .i) 0 (c .before .if1 .left), le-leb (a .n) (a .i) (c .if2 .taken)))
-
-cast-most : tie.Need-cast-most
-cast-most c = search needs
 
 returns-3 : tie.Need-returns-3
 returns-3 c =
@@ -70,30 +71,22 @@ returns-4 c =
     walk-far backward (a .words .now) (a .n) (a .nodes .now) (a .block) (a .i) (a .r) (ended (c .before .before))
     (far-under (a .n) (s .pre .short) (a .r) (s .fits .r) (c .if4 .taken))
 
-mul-edge : tie.Need-mul-edge
-mul-edge c = search needs
-
 edge-bwd-requires : tie.Need-edge-bwd-requires
 edge-bwd-requires c κs =
     let s = entry (within c) in
     let f = s .pre in
-    let z = near c in (
-      record { order = omega arith; inside = omega (arith, f .words); one = omega arith; short = omega (arith, f .short) },
-      rw (toZ-ofZ w64 _ (s .fits .r)) (omega (arith, f .short)),
-    )
+    let z = near c in
+    record {
+      bits = record { order = omega arith; inside = omega (arith, f .words); one = omega arith; short = omega (arith, f .short) };
+      room = rw (toZ-ofZ w64 _ (s .fits .r)) (omega (arith, f .short));
+    }
 
-enum-known-j : tie.Need-enum-known-j
-enum-known-j c = search needs
-
-enum-known-q : tie.Need-enum-known-q
-enum-known-q c = search needs
-
--- the bits from the edge on
+-- the result of the scan of the bits from the edge on
 first : (c : tie.After-edge-bwd) → (let a = entry (within (tested c)) .args in
     c .edge-bwd .result ≡ scan backward (bitAt (a .words .now)) (a .i - a .i / 8 * 8) (a .i / 8 * 8) (a .r))
 first c = rw (toZ-ofZ w64 _ (entry (within (tested c)) .fits .r)) at (c .edge-bwd .ensures)
 
--- what is left to do after them
+-- after these bits, the rest of the start block is left to scan
 after-edge : (c : tie.After-known-told2) → (let a = entry (within (tested (c .before .before .before))) .args in
     let edge = a .i / 8 * 8 in let from = (a .i - 1) / a .block * a .block in
     Reading backward (bitAt (a .words .now)) (a .i - from) from (a .r) (edge - from) from (toZ w64 (ofZ w64 (c .before .q .given .0 .0))))
@@ -103,12 +96,6 @@ after-edge c =
     let f = s .pre in
     part-on (reading-start _ _ _ _ _) (head-bwd (s .args .n) (s .args .block) (f .eight) (f .eights) (s .args .i) (omega arith)) (first n)
     (c .before .q .given .1) (record { sfits = c .known-told2 .given .0 .1 })
-
-sub-past-edge-bwd : tie.Need-sub-past-edge-bwd
-sub-past-edge-bwd c = search needs
-
-div-past-edge-bwd : tie.Need-div-past-edge-bwd
-div-past-edge-bwd c = search needs
 
 past-edge-bwd-requires : tie.Need-past-edge-bwd-requires
 past-edge-bwd-requires c κs =
@@ -120,15 +107,14 @@ past-edge-bwd-requires c κs =
     let l : 0 < a .i = omega arith in
     let k = after-edge c .near in
     let z = near e in
-    let h = high (a .n) (a .block) p (a .i - 1) in (
-      f,
-      (
-        leaves-in (a .n) (a .block) p ((a .i - 1) / a .block) (start-in (a .n) (a .block) p backward (a .i) (l, omega arith)),
-        omega (arith, edge-bwd-in (a .n) (a .block) (f .eight) (f .eights) (a .i) l),
-        omega arith,
-        omega (arith, f .small, f .short),
-      ),
-    )
+    let h = high (a .n) (a .block) p (a .i - 1) in
+    record {
+      fine = f;
+      begins = leaves-in (a .n) (a .block) p ((a .i - 1) / a .block) (start-in (a .n) (a .block) p backward (a .i) (l, omega arith));
+      order = omega (arith, edge-bwd-in (a .n) (a .block) (f .eight) (f .eights) (a .i) l);
+      inside = omega arith;
+      near = omega (arith, f .small, f .short);
+    }
 
 returns-5 : tie.Need-returns-5
 returns-5 c =
@@ -154,16 +140,16 @@ walk-bwd-spec =
     (tie.spec
     returns
     returns-2
-    cast-most
+    (λ c. search needs)
     returns-3
     sub-if4
     returns-4
-    mul-edge
+    (λ c. search needs)
     edge-bwd-requires
-    enum-known-j
-    enum-known-q
-    sub-past-edge-bwd
-    div-past-edge-bwd
+    (λ c. search needs)
+    (λ c. search needs)
+    (λ c. search needs)
+    (λ c. search needs)
     past-edge-bwd-requires
     returns-5
     returns-6)

@@ -1,5 +1,5 @@
--- `walking::forward::past_edge_fwd` meets its contract: the rest of the starting block holds the position, or leaves what is sought beyond. Assumes
--- nothing.
+-- `walk_code::forward::past_edge_fwd` scans the rest of the start block. A hit is the answer; without one the walk goes on with the remainder
+-- that is left. Assumes nothing.
 use mathlib.Core.Path.{_≡_, sym, _∙_}
 use Prim.Native.Nat.{_+_, _-_, _*_, _≤_, min}
 use native.Mathlib.Omega.{arith}
@@ -20,51 +20,36 @@ use Rattle.walk_code.proofs.Answers.{start-hit, start-left}
 use Rattle.walk_code.proofs.forward.past_edge_fwd.Statement.{statement}
 use Rattle.walk_code.proofs.forward.past_edge_fwd.Tie as tie
 
--- back from the answer of the scan: where the table is made, and the entry
+-- from the result of the scan back to the state after the lookup table is created
 abbrev made : tie.After-fwd-search-block → tie.After-t
 made c = c .before .before
 
+-- from there back to the start of the function
 abbrev entry : tie.After-t → tie.Start
 entry c = c .before .before .before
-
-table-requires : tie.Need-table-requires
-table-requires c κs = search needs
 
 add-earlier : tie.Need-add-earlier
 add-earlier c =
     let s = entry c in
-    omega (arith, few-blocks (s .args .b) (s .args .block) (omega (arith, s .pre .0 .eight)), s .pre .0 .short)
-
-mul-earlier : tie.Need-mul-earlier
-mul-earlier c = search needs
-
-earlier-requires : tie.Need-earlier-requires
-earlier-requires c κs = search needs
+    omega (arith, few-blocks (s .args .b) (s .args .block) (omega (arith, s .pre .fine .eight)), s .pre .fine .short)
 
 fwd-search-block-requires : tie.Need-fwd-search-block-requires
 fwd-search-block-requires c κs =
     let s = entry (c .before) in
-    let f = s .pre .0 in
-    let o = c .earlier .ensures in (
-      c .before .before .table .ensures,
-      (
-        record { order = omega arith; inside = omega (arith, f .words); short = omega (arith, f .short) },
-        rw (toZ-ofZ w64 _ (s .fits .r)) (omega arith),
-      ),
-    )
+    let f = s .pre .fine in
+    let o = c .earlier .ensures in
+    record {
+      table = c .before .before .table .ensures;
+      bits = record { order = omega arith; inside = omega (arith, f .words); short = omega (arith, f .short) };
+      room = rw (toZ-ofZ w64 _ (s .fits .r)) (omega arith);
+    }
 
-enum-known-j : tie.Need-enum-known-j
-enum-known-j c = search needs
-
-enum-known-q : tie.Need-enum-known-q
-enum-known-q c = search needs
-
--- what the scan read
+-- the result of the scan
 read : (c : tie.After-fwd-search-block) → (let a = entry (made c) .args in
     c .fwd-search-block .result ≡ scan forward (bitAt (a .words .now)) (min (a .n) ((a .b + 1) * a .block) - a .edge) (a .edge) (a .r))
 read c = rw (toZ-ofZ w64 _ (entry (made c) .fits .r), c .before .earlier .ensures) at (c .fwd-search-block .ensures)
 
--- what it leaves
+-- the size of the remainder that the scan leaves
 left : (c : tie.After-q) → size (c .q .given .0 .0) ≤ (maxBits + maxBlock)
 left c =
     let n = c .before .before in
@@ -72,7 +57,7 @@ left c =
     let a = s .args in
     let z = scan-size forward (bitAt (a .words .now)) (min (a .n) ((a .b + 1) * a .block) - a .edge) (a .edge) (a .r) (c .q .given .0 .0)
     (sym (read n) ∙ c .q .given .1) in
-    omega (arith, s .pre .1)
+    omega (arith, s .pre .near)
 
 fits : (c : tie.After-q) → SFits w64 (c .q .given .0 .0)
 fits c = omega (zsum, left c)
@@ -82,7 +67,8 @@ beyond-fwd-requires c κs =
     let g = c .before .before in
     let t = made (g .before .before) in
     let s = entry t in
-    rw (toZ-ofZ w64 _ (fits g)) (t .before .table .ensures, (s .pre .0, (s .pre .1 .0, left g)))
+    rw (toZ-ofZ w64 _ (fits g))
+    (record { table = t .before .table .ensures; fine = s .pre .fine; begins = s .pre .begins; near = left g })
 
 returns : tie.Need-returns
 returns c =
@@ -102,13 +88,13 @@ pub past-edge-fwd-spec : {M : Type 1} → statement M
 past-edge-fwd-spec =
     tie.close
     (tie.spec
-    table-requires
+    (λ c κs. search needs)
     add-earlier
-    mul-earlier
-    earlier-requires
+    (λ c. search needs)
+    (λ c κs. search needs)
     fwd-search-block-requires
-    enum-known-j
-    enum-known-q
+    (λ c. search needs)
+    (λ c. search needs)
     beyond-fwd-requires
     returns
     returns-2)

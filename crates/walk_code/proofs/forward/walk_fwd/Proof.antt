@@ -1,4 +1,5 @@
--- `walking::forward::walk_fwd` meets its contract: the ends, the test of |r| > n, the bits up to a byte's edge, and what lies past it. Assumes nothing.
+-- `walk_code::forward::walk_fwd` walks forward from position i for the difference r. Its returns are: nothing because of i, nothing because
+-- |r| > n, a hit in the bits up to a byte boundary (the edge), and the answer of the walk beyond it. Assumes nothing.
 use mathlib.Core.Path.{_≡_, _∙_}
 use mathlib.Core.Bool.{false}
 use Prim.Native.Nat.{_+_, _-_, _*_, _/_, _≤_, _<_, min}
@@ -21,20 +22,23 @@ use Rattle.walk_code.proofs.Answers.{less-fits, far-over, far-under, fa
 use Rattle.walk_code.proofs.forward.walk_fwd.Statement.{statement}
 use Rattle.walk_code.proofs.forward.walk_fwd.Tie as tie
 
--- back from the answer of the edge's scan: where the tests of r are passed, where the walk's ends are, and the entry
+-- from the scan up to the edge back to the state after the tests of r
 abbrev tested : tie.After-edge-fwd → tie.Else4
 tested c = c .before .before
 
+-- from there back to the state after the tests of i
 abbrev within : tie.Else4 → tie.Else2
 within c = c .before .before
 
+-- from there back to the start of the function
 abbrev entry : tie.Else2 → tie.Start
 entry c = c .before .before .before
 
--- the walk does not end at once, and r is not further than all bits go
+-- the walk does not end at once
 ended : (c : tie.Else2) → endsAtOnce forward (entry c .args .n) (entry c .args .i) ≡ false
 ended c = let a = entry c .args in lt-leb (a .n) (a .i + 1) (c .if2 .left)
 
+-- |r| is at most n
 near : (c : tie.Else4) → (let a = entry (within c) .args in size (a .r) ≤ a .n)
 near c =
     let s = entry (within c) in
@@ -45,16 +49,10 @@ returns c =
     let a = c .before .before .args in
     walk-end forward (a .words .now) (a .n) (a .nodes .now) (a .block) (a .i) (a .r) (le-leb (a .n) (a .i + 1) (omega arith))
 
-add-from : tie.Need-add-from
-add-from c = search needs
-
 returns-2 : tie.Need-returns-2
 returns-2 c =
     let a = c .before .before .before .args in
     walk-end forward (a .words .now) (a .n) (a .nodes .now) (a .block) (a .i) (a .r) (le-leb (a .n) (a .i + 1) (c .if2 .taken))
-
-cast-most : tie.Need-cast-most
-cast-most c = search needs
 
 returns-3 : tie.Need-returns-3
 returns-3 c =
@@ -73,37 +71,23 @@ returns-4 c =
     walk-far forward (a .words .now) (a .n) (a .nodes .now) (a .block) (a .i) (a .r) (ended (c .before .before))
     (far-under (a .n) (s .pre .short) (a .r) (s .fits .r) (c .if4 .taken))
 
-add-earlier : tie.Need-add-earlier
-add-earlier c = search needs
-
-mul-earlier : tie.Need-mul-earlier
-mul-earlier c = search needs
-
-earlier-requires : tie.Need-earlier-requires
-earlier-requires c κs = search needs
-
 edge-fwd-requires : tie.Need-edge-fwd-requires
 edge-fwd-requires c κs =
     let s = entry (within (c .before)) in
     let f = s .pre in
     let o = c .earlier .ensures in
-    let z = near (c .before) in (
-      record { order = omega arith; inside = omega (arith, f .words); one = omega arith; short = omega (arith, f .short) },
-      rw (toZ-ofZ w64 _ (s .fits .r)) (omega (arith, f .short)),
-    )
+    let z = near (c .before) in
+    record {
+      bits = record { order = omega arith; inside = omega (arith, f .words); one = omega arith; short = omega (arith, f .short) };
+      room = rw (toZ-ofZ w64 _ (s .fits .r)) (omega (arith, f .short));
+    }
 
-enum-known-j : tie.Need-enum-known-j
-enum-known-j c = search needs
-
-enum-known-q : tie.Need-enum-known-q
-enum-known-q c = search needs
-
--- the bits before the edge
+-- the result of the scan of the bits before the edge
 first : (c : tie.After-edge-fwd) → (let a = entry (within (tested c)) .args in
     c .edge-fwd .result ≡ scan forward (bitAt (a .words .now)) (min (a .n) ((a .i + 1 + 7) / 8 * 8) - (a .i + 1)) (a .i + 1) (a .r))
 first c = rw (toZ-ofZ w64 _ (entry (within (tested c)) .fits .r), c .before .earlier .ensures) at (c .edge-fwd .ensures)
 
--- what is left to do after them
+-- after these bits, the rest of the start block is left to scan
 after-edge : (c : tie.After-known-told2) → (let a = entry (within (tested (c .before .before .before))) .args in
     let from = a .i + 1 in let edge = min (a .n) ((from + 7) / 8 * 8) in let to = min (a .n) ((from / a .block + 1) * a .block) in
     Reading forward (bitAt (a .words .now)) (to - from) from (a .r) (to - edge) edge (toZ w64 (ofZ w64 (c .before .q .given .0 .0))))
@@ -114,9 +98,6 @@ after-edge c =
     let f = s .pre in
     part-on (reading-start _ _ _ _ _) (head-fwd (s .args .n) (s .args .block) (f .eight) (f .eights) (s .args .i) (within e .if2 .left))
     (first n) (c .before .q .given .1) (record { sfits = c .known-told2 .given .0 .1 })
-
-div-past-edge-fwd : tie.Need-div-past-edge-fwd
-div-past-edge-fwd c = search needs
 
 past-edge-fwd-requires : tie.Need-past-edge-fwd-requires
 past-edge-fwd-requires c κs =
@@ -129,14 +110,14 @@ past-edge-fwd-requires c κs =
     let k = after-edge c .near in
     let z = near e in
     let h = low (a .n) (a .block) p (a .i + 1) in
-    let o = n .before .earlier .ensures in (
-      f,
-      (
-        leaves-in (a .n) (a .block) p ((a .i + 1) / a .block) (start-in (a .n) (a .block) p forward (a .i) (within e .if2 .left)),
-        omega (arith, edge-fwd-in (a .n) (a .block) (f .eight) (f .eights) (a .i)),
-        omega (arith, f .small, f .short),
-      ),
-    )
+    let o = n .before .earlier .ensures in
+    record {
+      fine = f;
+      begins = leaves-in (a .n) (a .block) p ((a .i + 1) / a .block) (start-in (a .n) (a .block) p forward (a .i) (within e .if2 .left));
+      order = omega (arith, edge-fwd-in (a .n) (a .block) (f .eight) (f .eights) (a .i));
+      inside = omega arith;
+      near = omega (arith, f .small, f .short);
+    }
 
 returns-5 : tie.Need-returns-5
 returns-5 c =
@@ -163,19 +144,19 @@ walk-fwd-spec =
     tie.close
     (tie.spec
     returns
-    add-from
+    (λ c. search needs)
     returns-2
-    cast-most
+    (λ c. search needs)
     returns-3
     sub-if4
     returns-4
-    add-earlier
-    mul-earlier
-    earlier-requires
+    (λ c. search needs)
+    (λ c. search needs)
+    (λ c κs. search needs)
     edge-fwd-requires
-    enum-known-j
-    enum-known-q
-    div-past-edge-fwd
+    (λ c. search needs)
+    (λ c. search needs)
+    (λ c. search needs)
     past-edge-fwd-requires
     returns-5
     returns-6)

@@ -1,6 +1,5 @@
--- `descend::backward::descend_bwd` meets its contract: a descent is one by two levels or fewer and then one by the levels left, twice. The measure is
--- the levels left.
--- Assumes nothing.
+-- `walk_descend::backward::descend_bwd` goes down by up to two levels, by up to two more, and then calls itself. Each part followed by a descent
+-- of the levels left is the whole descent. Measure: the levels left. Assumes nothing.
 use mathlib.Core.Path.{_≡_, sym, _∙_}
 use native.Mathlib.Omega.{arith}
 use borrow.Author.Needs.{needs}
@@ -35,11 +34,11 @@ abbrev descend-bwd-below : ℕ → In 1 descend-bwd-kinds.ps
 descend-bwd-below t =
     and 1 descend-bwd-kinds.ps (falls 1 descend-bwd-kinds.ps _<_ μ-descend-bwd t) descend-bwd.Pre
 
--- what the calls ask and promise
+-- the contracts of the called functions
 abbrev calls : ℕ → descend-bwd-lts.Claims
 calls t = (down-two-bwd-reads.Asked, down-two-bwd-reads.Learnt, descend-bwd-below t, descend-bwd.Post)
 
--- ---- back from the answer of the next two levels: the node that the first two lead to, and the entry
+-- ---- back from the second call of `down_two_bwd`: the node that the first call has reached, and the start of the function
 abbrev halfway : {t : ℕ} → descend-bwd-lts.After-down-two-bwd2 (calls t) (descend-bwd-at t) descend-bwd.Post
     → descend-bwd-lts.After-j (calls t) (descend-bwd-at t) descend-bwd.Post
 halfway n = n .before .before .before
@@ -48,7 +47,7 @@ abbrev entry : {t : ℕ} → descend-bwd-lts.After-j (calls t) (descend-bwd-at t
     → descend-bwd-lts.Start (calls t) (descend-bwd-at t) descend-bwd.Post
 entry c = c .before .before .before
 
--- ---- the first two levels, the node that they lead to, and the levels left
+-- ---- the first two levels: their result, the node reached, and the descent of the levels left
 two : (t : ℕ) (n : descend-bwd-lts.After-down-two-bwd (calls t) (descend-bwd-at t) descend-bwd.Post) {b : Descended} → n .down-two-bwd .result ≡ b
     → (let a = n .before .args in descendedOf (descend backward (a .all) (a .nodes .now) (min (a .h) 2) (a .k) (a .r) 0) ≡ b)
 two t n e = sym (rw (toZ-ofZ w64 _ (n .before .fits .r)) at (n .down-two-bwd .ensures)) ∙ e
@@ -74,7 +73,7 @@ then t n e =
     let a = n .before .args in
     descended-then backward (a .all) (a .nodes .now) (min (a .h) 2) (a .h - 2) (a .h) (a .k) (a .r) (omega arith) (two t n e)
 
--- ---- and the next two
+-- ---- the next two levels, in the same way
 two-2 : (t : ℕ) (n : descend-bwd-lts.After-down-two-bwd2 (calls t) (descend-bwd-at t) descend-bwd.Post) {b : Descended}
     → n .down-two-bwd2 .result ≡ b
     → (let e = halfway n in let a = entry e .args in

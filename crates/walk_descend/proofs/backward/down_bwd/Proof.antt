@@ -1,4 +1,5 @@
--- `descend::backward::down_bwd` meets its contract: what is reached follows from what the one child and the other say. Assumes nothing.
+-- `walk_descend::backward::down_bwd` goes down by one level. Each return is one answer of the first child or, if the first is passed,
+-- of the second child. Assumes nothing.
 use mathlib.Core.Path.{_≡_, refl, sym, _∙_}
 use Prim.Native.Nat.{_+_, _*_}
 use native.Mathlib.Omega.{arith}
@@ -16,7 +17,7 @@ use Rattle.walk_descend.proofs.Descended.{bySecond, down-first, down-se
 use Rattle.walk_descend.proofs.backward.down_bwd.Statement.{statement}
 use Rattle.walk_descend.proofs.backward.down_bwd.Tie as tie
 
--- what the child asked first says, and the other one
+-- the answer of the first child
 asked : (n : tie.After-ask-bwd) {b : Asked} → n .ask-bwd .result ≡ b
     → (let a = n .before .args in askedOf backward (a .all) (a .nodes .now) (2 * a .k + 2) (a .r) ≡ b)
 asked n e = sym (rw (toZ-ofZ w64 _ (n .before .fits .r)) at (n .ask-bwd .ensures)) ∙ e
@@ -24,31 +25,14 @@ asked n e = sym (rw (toZ-ofZ w64 _ (n .before .fits .r)) at (n .ask-bwd .ensures
 left-back : (c : tie.After-known-told) → toZ w64 (ofZ w64 (c .before .q .given .0 .0)) ≡ c .before .q .given .0 .0
 left-back c = toZ-ofZ w64 _ (record { sfits = c .known-told .given .0 .1 })
 
+-- the answer of the second child
 asked-far : (n : tie.After-ask-bwd2) {b : Asked} → n .ask-bwd2 .result ≡ b
     → (let e = n .before .before in let a = e .before .before .before .args in
     askedOf backward (a .all) (a .nodes .now) (2 * a .k + 1) (e .q .given .0 .0) ≡ b)
 asked-far n e = sym (rw (left-back (n .before)) at (n .ask-bwd2 .ensures)) ∙ e
 
-mul-near : tie.Need-mul-near
-mul-near c = search needs
-
-add-near : tie.Need-add-near
-add-near c = search needs
-
-mul-far : tie.Need-mul-far
-mul-far c = search needs
-
-add-far : tie.Need-add-far
-add-far c = search needs
-
 ask-bwd-requires : tie.Need-ask-bwd-requires
 ask-bwd-requires c κs = rw (toZ-ofZ w64 _ (c .fits .r)) (omega arith)
-
-enum-told : tie.Need-enum-told
-enum-told c = search needs
-
-enum-known-q : tie.Need-enum-known-q
-enum-known-q c = search needs
 
 ask-bwd-requires-2 : tie.Need-ask-bwd-requires-2
 ask-bwd-requires-2 c κs =
@@ -60,24 +44,6 @@ ask-bwd-requires-2 c κs =
     (says backward (a .all) (a .nodes .now) (2 * a .k + 2) (a .r) refl (asked n (e .q .given .1))) in
     rw (left-back c) (omega arith)
 
-enum-told-2 : tie.Need-enum-told-2
-enum-told-2 c = search needs
-
-enum-told-3 : tie.Need-enum-told-3
-enum-told-3 c = search needs
-
-enum-told-4 : tie.Need-enum-told-4
-enum-told-4 c = search needs
-
-enum-told-5 : tie.Need-enum-told-5
-enum-told-5 c = search needs
-
-enum-told-6 : tie.Need-enum-told-6
-enum-told-6 c = search needs
-
-enum-told-7 : tie.Need-enum-told-7
-enum-told-7 c = search needs
-
 returns : tie.Need-returns
 returns c =
     let n = c .before .before in
@@ -85,7 +51,7 @@ returns c =
     let a = s .args in
     rw (toZ-ofZ w64 _ (s .fits .r)) (down-first backward (a .all) (a .nodes .now) (a .k) (a .r) (asked n (c .enum-told .given .1)))
 
--- by what the first child leaves
+-- the result for each answer of the second child, which is asked for the remainder after the first
 second : (n : tie.After-ask-bwd2) {b : Asked} → n .ask-bwd2 .result ≡ b → (let g = n .before .before in let a = g .before .before .before .args in
     bySecond backward (a .all) (a .nodes .now) (a .k) (a .r) (g .q .given .0 .0) b
     ≡ descendedOf (descend backward (a .all) (a .nodes .now) 1 (a .k) (a .r) 0))
@@ -123,20 +89,20 @@ pub down-bwd-spec : {M : Type 1} → statement M
 down-bwd-spec =
     tie.close
     (tie.spec
-    mul-near
-    add-near
-    mul-far
-    add-far
+    (λ c. search needs)
+    (λ c. search needs)
+    (λ c. search needs)
+    (λ c. search needs)
     ask-bwd-requires
-    enum-told
-    enum-known-q
+    (λ c. search needs)
+    (λ c. search needs)
     ask-bwd-requires-2
-    enum-told-2
-    enum-told-3
-    enum-told-4
-    enum-told-5
-    enum-told-6
-    enum-told-7
+    (λ c. search needs)
+    (λ c. search needs)
+    (λ c. search needs)
+    (λ c. search needs)
+    (λ c. search needs)
+    (λ c. search needs)
     returns
     returns-2
     returns-3

@@ -1,6 +1,5 @@
--- `descend::forward::descend_fwd` meets its contract: a descent is one by two levels or fewer and then one by the levels left, twice. The measure is
--- the levels left.
--- Assumes nothing.
+-- `walk_descend::forward::descend_fwd` goes down by up to two levels, by up to two more, and then calls itself. Each part followed by a descent
+-- of the levels left is the whole descent. Measure: the levels left. Assumes nothing.
 use mathlib.Core.Path.{_≡_, sym, _∙_}
 use native.Mathlib.Omega.{arith}
 use borrow.Author.Needs.{needs}
@@ -35,11 +34,11 @@ abbrev descend-fwd-below : ℕ → In 1 descend-fwd-kinds.ps
 descend-fwd-below t =
     and 1 descend-fwd-kinds.ps (falls 1 descend-fwd-kinds.ps _<_ μ-descend-fwd t) descend-fwd.Pre
 
--- what the calls ask and promise
+-- the contracts of the called functions
 abbrev calls : ℕ → descend-fwd-lts.Claims
 calls t = (down-two-fwd-reads.Asked, down-two-fwd-reads.Learnt, descend-fwd-below t, descend-fwd.Post)
 
--- ---- back from the answer of the next two levels: the node that the first two lead to, and the entry
+-- ---- back from the second call of `down_two_fwd`: the node that the first call has reached, and the start of the function
 abbrev halfway : {t : ℕ} → descend-fwd-lts.After-down-two-fwd2 (calls t) (descend-fwd-at t) descend-fwd.Post
     → descend-fwd-lts.After-j (calls t) (descend-fwd-at t) descend-fwd.Post
 halfway n = n .before .before .before
@@ -48,7 +47,7 @@ abbrev entry : {t : ℕ} → descend-fwd-lts.After-j (calls t) (descend-fwd-at t
     → descend-fwd-lts.Start (calls t) (descend-fwd-at t) descend-fwd.Post
 entry c = c .before .before .before
 
--- ---- the first two levels, the node that they lead to, and the levels left
+-- ---- the first two levels: their result, the node reached, and the descent of the levels left
 two : (t : ℕ) (n : descend-fwd-lts.After-down-two-fwd (calls t) (descend-fwd-at t) descend-fwd.Post) {b : Descended} → n .down-two-fwd .result ≡ b
     → (let a = n .before .args in descendedOf (descend forward (a .all) (a .nodes .now) (min (a .h) 2) (a .k) (a .r) 0) ≡ b)
 two t n e = sym (rw (toZ-ofZ w64 _ (n .before .fits .r)) at (n .down-two-fwd .ensures)) ∙ e
@@ -74,7 +73,7 @@ then t n e =
     let a = n .before .args in
     descended-then forward (a .all) (a .nodes .now) (min (a .h) 2) (a .h - 2) (a .h) (a .k) (a .r) (omega arith) (two t n e)
 
--- ---- and the next two
+-- ---- the next two levels, in the same way
 two-2 : (t : ℕ) (n : descend-fwd-lts.After-down-two-fwd2 (calls t) (descend-fwd-at t) descend-fwd.Post) {b : Descended}
     → n .down-two-fwd2 .result ≡ b
     → (let e = halfway n in let a = entry e .args in

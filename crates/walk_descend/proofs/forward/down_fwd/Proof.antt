@@ -1,4 +1,5 @@
--- `descend::forward::down_fwd` meets its contract: what is reached follows from what the one child and the other say. Assumes nothing.
+-- `walk_descend::forward::down_fwd` goes down by one level. Each return is one answer of the first child or, if the first is passed,
+-- of the second child. Assumes nothing.
 use mathlib.Core.Path.{_≡_, refl, sym, _∙_}
 use Prim.Native.Nat.{_+_, _*_}
 use native.Mathlib.Omega.{arith}
@@ -16,7 +17,7 @@ use Rattle.walk_descend.proofs.Descended.{bySecond, down-first, down-se
 use Rattle.walk_descend.proofs.forward.down_fwd.Statement.{statement}
 use Rattle.walk_descend.proofs.forward.down_fwd.Tie as tie
 
--- what the child asked first says, and the other one
+-- the answer of the first child
 asked : (n : tie.After-ask-fwd) {b : Asked} → n .ask-fwd .result ≡ b
     → (let a = n .before .args in askedOf forward (a .all) (a .nodes .now) (2 * a .k + 1) (a .r) ≡ b)
 asked n e = sym (rw (toZ-ofZ w64 _ (n .before .fits .r)) at (n .ask-fwd .ensures)) ∙ e
@@ -24,31 +25,14 @@ asked n e = sym (rw (toZ-ofZ w64 _ (n .before .fits .r)) at (n .ask-fwd .ensures
 left-back : (c : tie.After-known-told) → toZ w64 (ofZ w64 (c .before .q .given .0 .0)) ≡ c .before .q .given .0 .0
 left-back c = toZ-ofZ w64 _ (record { sfits = c .known-told .given .0 .1 })
 
+-- the answer of the second child
 asked-far : (n : tie.After-ask-fwd2) {b : Asked} → n .ask-fwd2 .result ≡ b
     → (let e = n .before .before in let a = e .before .before .before .args in
     askedOf forward (a .all) (a .nodes .now) (2 * a .k + 2) (e .q .given .0 .0) ≡ b)
 asked-far n e = sym (rw (left-back (n .before)) at (n .ask-fwd2 .ensures)) ∙ e
 
-mul-near : tie.Need-mul-near
-mul-near c = search needs
-
-add-near : tie.Need-add-near
-add-near c = search needs
-
-mul-far : tie.Need-mul-far
-mul-far c = search needs
-
-add-far : tie.Need-add-far
-add-far c = search needs
-
 ask-fwd-requires : tie.Need-ask-fwd-requires
 ask-fwd-requires c κs = rw (toZ-ofZ w64 _ (c .fits .r)) (omega arith)
-
-enum-told : tie.Need-enum-told
-enum-told c = search needs
-
-enum-known-q : tie.Need-enum-known-q
-enum-known-q c = search needs
 
 ask-fwd-requires-2 : tie.Need-ask-fwd-requires-2
 ask-fwd-requires-2 c κs =
@@ -60,24 +44,6 @@ ask-fwd-requires-2 c κs =
     (says forward (a .all) (a .nodes .now) (2 * a .k + 1) (a .r) refl (asked n (e .q .given .1))) in
     rw (left-back c) (omega arith)
 
-enum-told-2 : tie.Need-enum-told-2
-enum-told-2 c = search needs
-
-enum-told-3 : tie.Need-enum-told-3
-enum-told-3 c = search needs
-
-enum-told-4 : tie.Need-enum-told-4
-enum-told-4 c = search needs
-
-enum-told-5 : tie.Need-enum-told-5
-enum-told-5 c = search needs
-
-enum-told-6 : tie.Need-enum-told-6
-enum-told-6 c = search needs
-
-enum-told-7 : tie.Need-enum-told-7
-enum-told-7 c = search needs
-
 returns : tie.Need-returns
 returns c =
     let n = c .before .before in
@@ -85,7 +51,7 @@ returns c =
     let a = s .args in
     rw (toZ-ofZ w64 _ (s .fits .r)) (down-first forward (a .all) (a .nodes .now) (a .k) (a .r) (asked n (c .enum-told .given .1)))
 
--- by what the first child leaves
+-- the result for each answer of the second child, which is asked for the remainder after the first
 second : (n : tie.After-ask-fwd2) {b : Asked} → n .ask-fwd2 .result ≡ b → (let g = n .before .before in let a = g .before .before .before .args in
     bySecond forward (a .all) (a .nodes .now) (a .k) (a .r) (g .q .given .0 .0) b
     ≡ descendedOf (descend forward (a .all) (a .nodes .now) 1 (a .k) (a .r) 0))
@@ -123,20 +89,20 @@ pub down-fwd-spec : {M : Type 1} → statement M
 down-fwd-spec =
     tie.close
     (tie.spec
-    mul-near
-    add-near
-    mul-far
-    add-far
+    (λ c. search needs)
+    (λ c. search needs)
+    (λ c. search needs)
+    (λ c. search needs)
     ask-fwd-requires
-    enum-told
-    enum-known-q
+    (λ c. search needs)
+    (λ c. search needs)
     ask-fwd-requires-2
-    enum-told-2
-    enum-told-3
-    enum-told-4
-    enum-told-5
-    enum-told-6
-    enum-told-7
+    (λ c. search needs)
+    (λ c. search needs)
+    (λ c. search needs)
+    (λ c. search needs)
+    (λ c. search needs)
+    (λ c. search needs)
     returns
     returns-2
     returns-3

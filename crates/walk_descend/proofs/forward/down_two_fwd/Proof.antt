@@ -1,4 +1,5 @@
--- `descend::forward::down_two_fwd` meets its contract: of two levels or fewer none, or one and then the one that is left. Assumes nothing.
+-- `walk_descend::forward::down_two_fwd` goes down by two levels, or by h if h is less. The cases are: no level, one level, two
+-- levels. Assumes nothing.
 use mathlib.Core.Path.{_≡_, sym, _∙_}
 use Prim.Native.Nat.{_-_, min}
 use native.Mathlib.Omega.{arith}
@@ -16,7 +17,7 @@ use Rattle.walk_descend.proofs.Descended.{descended-leaf, onDown, desce
 use Rattle.walk_descend.proofs.forward.down_two_fwd.Statement.{statement}
 use Rattle.walk_descend.proofs.forward.down_two_fwd.Tie as tie
 
--- the first level, the node that it leads to, and the levels left
+-- the first level: its result, the node reached, and the descent of the levels left
 down : (n : tie.After-down-fwd) {b : Descended} → n .down-fwd .result ≡ b
     → (let a = n .before .before .args in descendedOf (descend forward (a .all) (a .nodes .now) 1 (a .k) (a .r) 0) ≡ b)
 down n e = sym (rw (toZ-ofZ w64 _ (n .before .before .fits .r)) at (n .down-fwd .ensures)) ∙ e
@@ -46,12 +47,6 @@ returns c =
 
 down-fwd-requires : tie.Need-down-fwd-requires
 down-fwd-requires c κs = rw (toZ-ofZ w64 _ (c .before .fits .r)) (omega arith)
-
-enum-known-j : tie.Need-enum-known-j
-enum-known-j c = search needs
-
-enum-told : tie.Need-enum-told
-enum-told c = search needs
 
 returns-2 : tie.Need-returns-2
 returns-2 c = then (c .before .before) (c .enum-told .given .1)
@@ -85,8 +80,8 @@ down-two-fwd-spec =
     (tie.spec
     returns
     down-fwd-requires
-    enum-known-j
-    enum-told
+    (λ c. search needs)
+    (λ c. search needs)
     returns-2
     returns-3
     down-fwd-requires-2

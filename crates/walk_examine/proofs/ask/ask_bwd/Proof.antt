@@ -1,4 +1,5 @@
--- `examine::ask::ask_bwd` meets its contract: the node is absent, a misfit, holds what is counted from its start, or is passed. Assumes nothing.
+-- `walk_examine::ask::ask_bwd` asks node k in a backward walk. Its four returns are the four cases: the node does not exist, is out of range,
+-- qualifies for s = r + total, or is passed. Assumes nothing.
 use mathlib.Core.Path.{_≡_, sym, ap, _∙_}
 use borrow.Author.Needs.{needs}
 use lib.IntN.{_+ℤ_}
@@ -14,21 +15,23 @@ use Rattle.walk_examine.proofs.Asked.{Looked, looked, total-back, passe
 use Rattle.walk_examine.proofs.ask.ask_bwd.Statement.{statement}
 use Rattle.walk_examine.proofs.ask.ask_bwd.Tie as tie
 
--- back from the answer whether the node holds what is sought: where its numbers are seen, and the entry
+-- from the result of `holds_back` back to the state after `examine`
 abbrev seen : tie.After-holds-back → tie.After-x
 seen c = c .before .before .before .before
 
+-- from the state after `examine` back to the start of the function
 abbrev entry : tie.After-x → tie.Start
 entry c = c .before .before .before .before
 
--- the node that is there
+-- node k of the buffer
 abbrev node : tie.After-x → Summary
 node c = let s = entry c .args in nodeAt (s .nodes .now) (s .k)
 
+-- node k has been examined: its entries are in range
 look : (c : tie.After-x) → Looked (node c) (Fit (c .x .given .0 .0))
 look c = looked (node c) (c .before .before .examine .ensures) (c .x .given .1)
 
--- what is left past it, and what it holds
+-- the sum that the machine computes is s = r + total
 more : (c : tie.After-x) → (let s = entry c in
     toZ w64 (ofZ w64 (s .args .r)) +ℤ toZ w64 (ofZ w64 (c .x .given .0 .0 .total)) ≡ s .args .r +ℤ node c .total)
 more c = rw (toZ-ofZ w64 _ (entry c .fits .r), total-back (node c) (look c))
@@ -37,8 +40,9 @@ add-s : tie.Need-add-s
 add-s c =
     let n = c .before .before .before in
     let s = entry n in
-    rw (more n) (passed-fits backward (s .args .r) (node n) (look n .0) (s .pre .1))
+    rw (more n) (passed-fits backward (s .args .r) (node n) (look n .0) (s .pre .room))
 
+-- the result of `holds_back` says whether node k qualifies for s
 held : (c : tie.After-holds-back) → (let n = seen c in c .holds-back .result ≡ holdsBack (node n) (entry n .args .r +ℤ node n .total))
 held c =
     let n = seen c in
@@ -47,18 +51,6 @@ held c =
 
 returns : tie.Need-returns
 returns c = let s = c .before .args in asked-absent backward (s .all) (s .nodes .now) (s .k) (s .r) (c .if1 .taken)
-
-examine-requires : tie.Need-examine-requires
-examine-requires c κs = search needs
-
-enum-known-x : tie.Need-enum-known-x
-enum-known-x c = search needs
-
-holds-back-requires : tie.Need-holds-back-requires
-holds-back-requires c κs = search needs
-
-enum-told : tie.Need-enum-told
-enum-told c = search needs
 
 returns-2 : tie.Need-returns-2
 returns-2 c =
@@ -86,11 +78,11 @@ ask-bwd-spec =
     tie.close
     (tie.spec
     returns
-    examine-requires
-    enum-known-x
+    (λ c κs. search needs)
+    (λ c. search needs)
     add-s
-    holds-back-requires
-    enum-told
+    (λ c κs. search needs)
+    (λ c. search needs)
     returns-2
     returns-3
     returns-4)

@@ -1,4 +1,5 @@
--- `examine::ask::ask_fwd` meets its contract: the node is absent, a misfit, holds r, or is passed. Assumes nothing.
+-- `walk_examine::ask::ask_fwd` asks node k in a forward walk. Its four returns are the four cases: the node does not exist, is out of range,
+-- qualifies for r, or is passed. Assumes nothing.
 use mathlib.Core.Path.{_≡_, sym, ap, _∙_}
 use borrow.Author.Needs.{needs}
 use lib.IntN.{_-ℤ_}
@@ -14,27 +15,30 @@ use Rattle.walk_examine.proofs.Asked.{Looked, looked, total-back, passe
 use Rattle.walk_examine.proofs.ask.ask_fwd.Statement.{statement}
 use Rattle.walk_examine.proofs.ask.ask_fwd.Tie as tie
 
--- back from the answer whether the node holds what is sought: where its numbers are seen, and the entry
+-- from the result of `holds` back to the state after `examine`
 abbrev seen : tie.After-holds → tie.After-x
 seen c = c .before .before
 
+-- from the state after `examine` back to the start of the function
 abbrev entry : tie.After-x → tie.Start
 entry c = c .before .before .before .before
 
--- the node that is there
+-- node k of the buffer
 abbrev node : tie.After-x → Summary
 node c = let s = entry c .args in nodeAt (s .nodes .now) (s .k)
 
+-- node k has been examined: its entries are in range
 look : (c : tie.After-x) → Looked (node c) (Fit (c .x .given .0 .0))
 look c = looked (node c) (c .before .before .examine .ensures) (c .x .given .1)
 
--- what it holds, and what is left past it
+-- the result of `holds` says whether node k qualifies for r
 held : (c : tie.After-holds) → (let n = seen c in c .holds .result ≡ holdsFor (node n) (entry n .args .r))
 held c =
     let n = seen c in
     let s = entry n in
     (rw (toZ-ofZ w64 _ (s .fits .r)) at (c .holds .ensures)) ∙ ap (λ (y : Summary). holdsFor y (s .args .r)) (sym (look n .1))
 
+-- the difference that the machine computes is the remainder r - total
 less : (c : tie.After-x) → (let s = entry c in
     toZ w64 (ofZ w64 (s .args .r)) -ℤ toZ w64 (ofZ w64 (c .x .given .0 .0 .total)) ≡ s .args .r -ℤ node c .total)
 less c = rw (toZ-ofZ w64 _ (entry c .fits .r), total-back (node c) (look c))
@@ -42,23 +46,11 @@ less c = rw (toZ-ofZ w64 _ (entry c .fits .r), total-back (node c) (look c))
 returns : tie.Need-returns
 returns c = let s = c .before .args in asked-absent forward (s .all) (s .nodes .now) (s .k) (s .r) (c .if1 .taken)
 
-examine-requires : tie.Need-examine-requires
-examine-requires c κs = search needs
-
-enum-known-x : tie.Need-enum-known-x
-enum-known-x c = search needs
-
-holds-requires : tie.Need-holds-requires
-holds-requires c κs = search needs
-
 sub-t11 : tie.Need-sub-t11
 sub-t11 c =
     let n = seen (c .before .before .before) in
     let s = entry n in
-    rw (less n) (passed-fits forward (s .args .r) (node n) (look n .0) (s .pre .1))
-
-enum-told : tie.Need-enum-told
-enum-told c = search needs
+    rw (less n) (passed-fits forward (s .args .r) (node n) (look n .0) (s .pre .room))
 
 returns-2 : tie.Need-returns-2
 returns-2 c =
@@ -86,11 +78,11 @@ ask-fwd-spec =
     tie.close
     (tie.spec
     returns
-    examine-requires
-    enum-known-x
-    holds-requires
+    (λ c κs. search needs)
+    (λ c. search needs)
+    (λ c κs. search needs)
     sub-t11
-    enum-told
+    (λ c. search needs)
     returns-2
     returns-3
     returns-4)

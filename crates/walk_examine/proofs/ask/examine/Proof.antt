@@ -1,4 +1,5 @@
--- `examine::ask::examine` meets its contract: each number is tested as the machine reads it back. Assumes nothing.
+-- `walk_examine::ask::examine` reads the entries of node k and tests each for range. Each return follows from the tests before it.
+-- Assumes nothing.
 use mathlib.Core.Path.{ap, _∙_}
 use native.Mathlib.Omega.{arith}
 use borrow.Author.Needs.{needs}
@@ -9,24 +10,15 @@ use Rattle.walk_examine.proofs.Asked.{told-no, told-yes, examined-total
 use Rattle.walk_examine.proofs.ask.examine.Statement.{statement}
 use Rattle.walk_examine.proofs.ask.examine.Tie as tie
 
--- the node's numbers fit, as a read tells it
+-- the three entries fit into an i64, because they were read from the buffer
 fit : (c : tie.After-node-at) → (let x = c .node-at .result in SFits w64 (x .total) × SFits w64 (x .least) × SFits w64 (x .greatest))
 fit c = (omega arith, omega arith, omega arith)
-
-node-at-requires : tie.Need-node-at-requires
-node-at-requires c κs = search needs
-
-near-zero-requires : tie.Need-near-zero-requires
-near-zero-requires c κs = search needs
 
 returns : tie.Need-returns
 returns c =
     let n = c .before .before .before in
     let f = fit n in
     examined-total (n .node-at .result) (told-no (f .0) (c .before .near-zero .ensures) (c .if1 .taken)) ∙ ap examinedOf (n .node-at .ensures)
-
-near-zero-requires-2 : tie.Need-near-zero-requires-2
-near-zero-requires-2 c κs = search needs
 
 returns-2 : tie.Need-returns-2
 returns-2 c =
@@ -35,9 +27,6 @@ returns-2 c =
     let f = fit n in
     examined-least (n .node-at .result) (told-yes (f .0) (a .before .near-zero .ensures) (a .if1 .left)) (told-no (f .1) (c .before .near-zero2 .ensures) (c .if2 .taken))
     ∙ ap examinedOf (n .node-at .ensures)
-
-near-zero-requires-3 : tie.Need-near-zero-requires-3
-near-zero-requires-3 c κs = search needs
 
 returns-3 : tie.Need-returns-3
 returns-3 c =
@@ -61,11 +50,11 @@ pub examine-spec : {M : Type 1} → statement M
 examine-spec =
     tie.close
     (tie.spec
-    node-at-requires
-    near-zero-requires
+    (λ c κs. search needs)
+    (λ c κs. search needs)
     returns
-    near-zero-requires-2
+    (λ c κs. search needs)
     returns-2
-    near-zero-requires-3
+    (λ c κs. search needs)
     returns-3
     returns-4)

@@ -1,4 +1,5 @@
--- `examine::ask::near_zero` meets its contract: the second test where the first holds, and the first where it does not. Assumes nothing.
+-- `walk_examine::ask::near_zero` tests whether x is in range. If the first comparison holds, the second is the answer; otherwise the answer
+-- is no. Assumes nothing.
 use mir.Syntax.{w64}
 use mir.ValLaws.{toZ-ofZ}
 use Rattle.walk_spec.specs.Walk.{inRange}

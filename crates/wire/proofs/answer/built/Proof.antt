@@ -8,15 +8,6 @@ use borrow.Author.Needs.{needs}
 use Rattle.wire.proofs.answer.built.Statement.{statement}
 use Rattle.wire.proofs.answer.built.Tie as tie
 
-enum-told : tie.Need-enum-told
-enum-told c = search needs
-
-enum-known-a : tie.Need-enum-known-a
-enum-known-a c = search needs
-
-refused-requires : tie.Need-refused-requires
-refused-requires c κs = search needs
-
 returns : tie.Need-returns
 returns c = sym (ap (λ x. wireOf (paperBuilt x)) (c .enum-told .given .1))
 
@@ -26,4 +17,4 @@ returns-2 c =
     ∙ sym (ap (λ x. wireOf (paperBuilt x)) (c .before .before .a .given .1))
 
 pub built-spec : {M : Type 1} → statement M
-built-spec = tie.close (tie.spec enum-told enum-known-a refused-requires returns returns-2)
+built-spec = tie.close (tie.spec (λ c. search needs) (λ c. search needs) (λ c κs. search needs) returns returns-2)

@@ -10,22 +10,10 @@ use borrow.Author.Needs.{needs}
 use Rattle.wire.proofs.answer.found.Statement.{statement}
 use Rattle.wire.proofs.answer.found.Tie as tie
 
-enum-known-a : tie.Need-enum-known-a
-enum-known-a c = search needs
-
 cast-result : tie.Need-cast-result
 cast-result c =
     let s = small-at _ _ (ap paperFound (c .before .a .given .1)) (c .before .before .before .pre) in
     record { sfits = omega arith }
-
-enum-told : tie.Need-enum-told
-enum-told c = search needs
-
-enum-known-a-2 : tie.Need-enum-known-a-2
-enum-known-a-2 c = search needs
-
-refused-requires : tie.Need-refused-requires
-refused-requires c κs = search needs
 
 returns : tie.Need-returns
 returns c =
@@ -44,11 +32,11 @@ pub found-spec : {M : Type 1} → statement M
 found-spec =
     tie.close
     (tie.spec
-    enum-known-a
+    (λ c. search needs)
     cast-result
-    enum-told
-    enum-known-a-2
-    refused-requires
+    (λ c. search needs)
+    (λ c. search needs)
+    (λ c κs. search needs)
     returns
     returns-2
     returns-3)

@@ -10,19 +10,10 @@ use borrow.Author.Needs.{needs}
 use Rattle.wire.proofs.answer.read.Statement.{statement}
 use Rattle.wire.proofs.answer.read.Tie as tie
 
-enum-known-a : tie.Need-enum-known-a
-enum-known-a c = search needs
-
 cast-result : tie.Need-cast-result
 cast-result c =
     let s = small-at _ _ (ap paperRead (c .before .a .given .1)) (c .before .before .before .pre) in
     record { sfits = omega arith }
-
-enum-known-a-2 : tie.Need-enum-known-a-2
-enum-known-a-2 c = search needs
-
-refused-requires : tie.Need-refused-requires
-refused-requires c κs = search needs
 
 returns : tie.Need-returns
 returns c =
@@ -36,4 +27,4 @@ returns-2 c =
 
 pub read-spec : {M : Type 1} → statement M
 read-spec =
-    tie.close (tie.spec enum-known-a cast-result enum-known-a-2 refused-requires returns returns-2)
+    tie.close (tie.spec (λ c. search needs) cast-result (λ c. search needs) (λ c κs. search needs) returns returns-2)

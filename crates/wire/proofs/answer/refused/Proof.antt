@@ -7,9 +7,6 @@ use borrow.Author.Needs.{needs}
 use Rattle.wire.proofs.answer.refused.Statement.{statement}
 use Rattle.wire.proofs.answer.refused.Tie as tie
 
-number-requires : tie.Need-number-requires
-number-requires c κs = search needs
-
 cast-result : tie.Need-cast-result
 cast-result c =
     let s = number-small (c .before .args .k) in
@@ -26,4 +23,4 @@ returns c =
     rw (c .number .ensures, below _ s) (toZ-ofZ w64 _ (negsuc-fits _ s))
 
 pub refused-spec : {M : Type 1} → statement M
-refused-spec = tie.close (tie.spec number-requires cast-result sub-result returns)
+refused-spec = tie.close (tie.spec (λ c κs. search needs) cast-result sub-result returns)

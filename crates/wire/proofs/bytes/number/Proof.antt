@@ -7,14 +7,8 @@ use borrow.Author.Needs.{needs}
 use Rattle.wire.proofs.bytes.number.Statement.{statement}
 use Rattle.wire.proofs.bytes.number.Tie as tie
 
-word-requires : tie.Need-word-requires
-word-requires c κs = search needs
-
-of-word-requires : tie.Need-of-word-requires
-of-word-requires c κs = search needs
-
 returns : tie.Need-returns
 returns c = toZ-ofZ w64 _ (record { sfits = c .of-word .ok }) ∙ c .of-word .ensures ∙ ap (toZ w64) (c .before .word .ensures)
 
 pub number-spec : {M : Type 1} → statement M
-number-spec = tie.close (tie.spec word-requires of-word-requires returns)
+number-spec = tie.close (tie.spec (λ c κs. search needs) (λ c κs. search needs) returns)

@@ -7,22 +7,10 @@ use borrow.Author.Needs.{needs}
 use Rattle.wire.proofs.bytes.of_word.Statement.{statement}
 use Rattle.wire.proofs.bytes.of_word.Tie as tie
 
-cast-result : tie.Need-cast-result
-cast-result c = search needs
-
-sub-result : tie.Need-sub-result
-sub-result c = search needs
-
-cast-result-2 : tie.Need-cast-result-2
-cast-result-2 c = search needs
-
 sub-result-2 : tie.Need-sub-result-2
 sub-result-2 c =
     let w = c .before .args .w in
     rw (high w (c .if1 .left) (c .before .fits .w .fits)) (toZ-fits w64 w (c .before .fits .w))
-
-returns : tie.Need-returns
-returns c = search needs
 
 returns-2 : tie.Need-returns-2
 returns-2 c =
@@ -31,4 +19,4 @@ returns-2 c =
 
 pub of-word-spec : {M : Type 1} → statement M
 of-word-spec =
-    tie.close (tie.spec cast-result sub-result cast-result-2 sub-result-2 returns returns-2)
+    tie.close (tie.spec (λ c. search needs) (λ c. search needs) (λ c. search needs) sub-result-2 (λ c. search needs) returns-2)

@@ -7,15 +7,6 @@ use borrow.Author.Needs.{needs}
 use Rattle.wire.proofs.bytes.put_number.Statement.{statement}
 use Rattle.wire.proofs.bytes.put_number.Tie as tie
 
-to-word-requires : tie.Need-to-word-requires
-to-word-requires c κs = search needs
-
-put-requires : tie.Need-put-requires
-put-requires c κs = search needs
-
-same-length : tie.Need-same-length
-same-length c = search needs
-
 returns : tie.Need-returns
 returns c =
     let p = c .before .before in
@@ -24,4 +15,4 @@ returns c =
     p .put .ensures ∙ ap (putAt (a .args .b .now) (a .args .i)) w
 
 pub put-number-spec : {M : Type 1} → statement M
-put-number-spec = tie.close (tie.spec to-word-requires put-requires same-length returns)
+put-number-spec = tie.close (tie.spec (λ c κs. search needs) (λ c κs. search needs) (λ c. search needs) returns)

@@ -5,9 +5,6 @@ use Rattle.wire.specs.Limit.{wireBits}
 use Rattle.wire.proofs.limit.bits.Statement.{statement}
 use Rattle.wire.proofs.limit.bits.Tie as tie
 
-add-result : tie.Need-add-result
-add-result c = search needs
-
 returns : tie.Need-returns
 unfolding wireBits
 returns c = simp (lt-leb _ _ (c .if1 .taken))
@@ -17,4 +14,4 @@ unfolding wireBits
 returns-2 c = simp (le-leb _ _ (c .if1 .left))
 
 pub bits-spec : {M : Type 1} → statement M
-bits-spec = tie.close (tie.spec add-result returns returns-2)
+bits-spec = tie.close (tie.spec (λ c. search needs) returns returns-2)

@@ -26,24 +26,6 @@ entry c = c .before .before
 loop-holds : tie.Need-loop-holds Inv-loop μ-loop
 loop-holds c = (search needs, refl, λ j l. absurd (omega arith))
 
-mul-number : tie.Need-mul-number Inv-loop μ-loop
-mul-number c = search needs
-
-number-requires : tie.Need-number-requires Inv-loop μ-loop
-number-requires c κs = search needs
-
-mul-t7 : tie.Need-mul-t7 Inv-loop μ-loop
-mul-t7 c = search needs
-
-slice-set-from-out : tie.Need-slice-set-from-out Inv-loop μ-loop
-slice-set-from-out c = search needs
-
-add-i : tie.Need-add-i Inv-loop μ-loop
-add-i c = search needs
-
-loop-less : tie.Need-loop-less Inv-loop μ-loop
-loop-less c = search needs
-
 loop-again : tie.Need-loop-again Inv-loop μ-loop
 loop-again c =
     let b = c .before .before in
@@ -53,9 +35,6 @@ loop-again c =
       simp length-set (search needs),
       more (b .loop .out) (pos 0) _ (λ j. numberAt s (8 * j)) (b .loop .i) (omega arith) (b .loop .inv .2) e,
     )
-
-same-length : tie.Need-same-length Inv-loop μ-loop
-same-length c = search needs
 
 returns : tie.Need-returns Inv-loop μ-loop
 returns c =
@@ -70,12 +49,12 @@ read-numbers-spec =
     Inv-loop
     μ-loop
     loop-holds
-    mul-number
-    number-requires
-    mul-t7
-    slice-set-from-out
-    add-i
-    loop-less
+    (λ c. search needs)
+    (λ c κs. search needs)
+    (λ c. search needs)
+    (λ c. search needs)
+    (λ c. search needs)
+    (λ c. search needs)
     loop-again
-    same-length
+    (λ c. search needs)
     returns)

@@ -10,15 +10,9 @@ use borrow.Author.Needs.{needs}
 use Rattle.wire.proofs.lists.take_numbers.Statement.{statement}
 use Rattle.wire.proofs.lists.take_numbers.Tie as tie
 
--- The entry of the function, seen from the point where the number of fitting numbers is known.
+-- The entry of the function, seen from the point after `fitting` has returned.
 abbrev entry : tie.After-fitting → tie.Start
 entry c = c .before .before
-
-fitting-requires : tie.Need-fitting-requires
-fitting-requires c κs = search needs
-
-slice-relend-prefix-read-numbers : tie.Need-slice-relend-prefix-read-numbers
-slice-relend-prefix-read-numbers c = search needs
 
 slice-aggregate-read-numbers : tie.Need-slice-aggregate-read-numbers
 slice-aggregate-read-numbers c =
@@ -30,24 +24,21 @@ slice-aggregate-read-numbers c =
 read-numbers-requires : tie.Need-read-numbers-requires
 read-numbers-requires c κs = prefix-fits _ _ _ (c .before .fitting .ensures)
 
-same-length : tie.Need-same-length
-same-length c = search needs
-
 returns : tie.Need-returns
 returns c =
     let f = c .before .before .before in
     let a = entry f .args in
     let e = f .fitting in
     let h : e .result ≤ length (a .out .now) = omega (arith, e .ensures) in
-    (e .ensures, prefix-made (λ j. numberAt (a .bytes .now) (8 * j)) (a .out .now) _ _ (e .result) h (c .before .read-numbers .ensures))
+    record { answer = e .ensures; slice = prefix-made (λ j. numberAt (a .bytes .now) (8 * j)) (a .out .now) _ _ (e .result) h (c .before .read-numbers .ensures) }
 
 pub take-numbers-spec : {M : Type 1} → statement M
 take-numbers-spec =
     tie.close
     (tie.spec
-    fitting-requires
-    slice-relend-prefix-read-numbers
+    (λ c κs. search needs)
+    (λ c. search needs)
     slice-aggregate-read-numbers
     read-numbers-requires
-    same-length
+    (λ c. search needs)
     returns)

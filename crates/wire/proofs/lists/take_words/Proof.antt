@@ -10,15 +10,9 @@ use borrow.Author.Needs.{needs}
 use Rattle.wire.proofs.lists.take_words.Statement.{statement}
 use Rattle.wire.proofs.lists.take_words.Tie as tie
 
--- The entry of the function, seen from the point where the number of fitting words is known.
+-- The entry of the function, seen from the point after `fitting` has returned.
 abbrev entry : tie.After-fitting → tie.Start
 entry c = c .before .before .before
-
-fitting-requires : tie.Need-fitting-requires
-fitting-requires c κs = search needs
-
-slice-relend-prefix-read-words : tie.Need-slice-relend-prefix-read-words
-slice-relend-prefix-read-words c = search needs
 
 slice-aggregate-read-words : tie.Need-slice-aggregate-read-words
 slice-aggregate-read-words c =
@@ -30,24 +24,21 @@ slice-aggregate-read-words c =
 read-words-requires : tie.Need-read-words-requires
 read-words-requires c κs = prefix-fits _ _ _ (c .before .fitting .ensures)
 
-same-length : tie.Need-same-length
-same-length c = search needs
-
 returns : tie.Need-returns
 returns c =
     let f = c .before .before .before .before in
     let a = entry f .args in
     let e = f .fitting in
     let h : e .result ≤ length (a .out .now) = omega (arith, e .ensures) in
-    (e .ensures, prefix-made (λ j. wordAt (a .bytes .now) (8 * j)) (a .out .now) _ _ (e .result) h (c .before .before .read-words .ensures))
+    record { answer = e .ensures; slice = prefix-made (λ j. wordAt (a .bytes .now) (8 * j)) (a .out .now) _ _ (e .result) h (c .before .before .read-words .ensures) }
 
 pub take-words-spec : {M : Type 1} → statement M
 take-words-spec =
     tie.close
     (tie.spec
-    fitting-requires
-    slice-relend-prefix-read-words
+    (λ c κs. search needs)
+    (λ c. search needs)
     slice-aggregate-read-words
     read-words-requires
-    same-length
+    (λ c. search needs)
     returns)

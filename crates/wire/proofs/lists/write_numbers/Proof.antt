@@ -1,5 +1,5 @@
 -- `wire::write_numbers` writes signed numbers at the front of a byte slice. Loop invariant: the first i numbers are written, and
--- the bytes after them are unchanged. Measure: the number of numbers left. Assumes nothing.
+-- the bytes after them are unchanged. Measure: how many numbers are left. Assumes nothing.
 use native.Mathlib.Omega.{arith}
 use borrow.Author.Needs.{needs}
 use mathlib.Core.Path.{_≡_, refl, sym, ap, _∙_}
@@ -29,24 +29,6 @@ entry c = c .before .before
 loop-holds : tie.Need-loop-holds Inv-loop μ-loop
 loop-holds c = let a = c .before .args in (search needs, over-none (map (ofZ w64) (a .numbers .now)) (a .bytes .now), refl)
 
-mul-put-number : tie.Need-mul-put-number Inv-loop μ-loop
-mul-put-number c = search needs
-
-mul-put-number-2 : tie.Need-mul-put-number-2 Inv-loop μ-loop
-mul-put-number-2 c = search needs
-
-shared-slice-copy-out-put-number : tie.Need-shared-slice-copy-out-put-number Inv-loop μ-loop
-shared-slice-copy-out-put-number c = search needs
-
-put-number-requires : tie.Need-put-number-requires Inv-loop μ-loop
-put-number-requires c κs = search needs
-
-add-i : tie.Need-add-i Inv-loop μ-loop
-add-i c = search needs
-
-loop-less : tie.Need-loop-less Inv-loop μ-loop
-loop-less c = search needs
-
 loop-again : tie.Need-loop-again Inv-loop μ-loop
 loop-again c =
     let d = c .before .before in
@@ -61,9 +43,6 @@ loop-again c =
     let g : b .i < length (map (ofZ w64) zs) = rw (length-map zs (ofZ w64)) h in
     let e = ap (ofZ w64) (toZ-ofZ w64 z f) ∙ sym (getD-map (ofZ w64) zs (b .i) (pos 0) 0 h) in
     (search needs, p .ensures ∙ over-more (map (ofZ w64) zs) (a .bytes .now) (b .bytes) (b .i) _ g (b .inv .1) e, p .kept .0 ∙ b .inv .2)
-
-same-length : tie.Need-same-length Inv-loop μ-loop
-same-length c = search needs
 
 returns : tie.Need-returns Inv-loop μ-loop
 returns c =
@@ -81,12 +60,12 @@ write-numbers-spec =
     Inv-loop
     μ-loop
     loop-holds
-    mul-put-number
-    mul-put-number-2
-    shared-slice-copy-out-put-number
-    put-number-requires
-    add-i
-    loop-less
+    (λ c. search needs)
+    (λ c. search needs)
+    (λ c. search needs)
+    (λ c κs. search needs)
+    (λ c. search needs)
+    (λ c. search needs)
     loop-again
-    same-length
+    (λ c. search needs)
     returns)
