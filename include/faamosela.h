@@ -2,14 +2,49 @@
  *
  * How to use the functions:
  *
- *   1. Fill a row, or convert a text to a row with bp_read_text.
- *   2. Allocate a node buffer ("SIZE OF THE NODE BUFFER") and fill it with bp_build.
+ *   1. Fill a row, or convert a text to a row with bp_read_text or bpw_read_text.
+ *   2. Allocate a node buffer ("SIZE OF THE NODE BUFFER") and fill it with bp_build or bpw_build.
+ *      A build accepts memory with any content.
  *   3. Call the other functions with the same row, `bits`, node buffer and `block`.
  *
- * Every function exists twice. bp_NAME takes byte slices, for rows of up to 4,096 bits. bpw_NAME takes arrays of 64-bit
- * words and entries, for rows of up to 2^32 bits.
+ * A slice is a pointer and a length. Every function exists twice, for two kinds of slices:
  *
- * Some comments have a line `Exactly`. The line `Exactly` is the definition; the sentence before it explains the usual case.
+ *   name       slices                     rows              prefer it
+ *   bp_NAME    bytes                      to 4,096 bits     if the host has bytes only and the rows are small
+ *   bpw_NAME   64-bit words and entries   to 2^32 bits      otherwise: it copies nothing and takes large rows
+ *
+ * Each call of a bp_ function decodes its whole row and its whole node buffer, up to 64 words and 3,069 entries.
+ *
+ *
+ * EXAMPLE
+ *
+ * This program converts a text, builds the node buffer and prints 3, the handle of the parent of the outline node 4:
+ *
+ *   #include "faamosela.h"
+ *   #include <stdio.h>
+ *   #include <string.h>
+ *
+ *   int main(void) {
+ *       const char *text = "(()(()))";
+ *       uint64_t words[1];    // room for 64 bits
+ *       int64_t nodes[6];     // "SIZE OF THE NODE BUFFER": 3 * (1 + 1) entries
+ *       int64_t bits = bpw_read_text((const uint8_t *)text, strlen(text), words, 1);
+ *       if (bits < 0 || bpw_build(words, 1, (uint64_t)bits, nodes, 6, 512) != 0)
+ *           return 1;
+ *       int64_t parent = bpw_parent(words, 1, (uint64_t)bits, nodes, 6, 512, 4);
+ *       printf("%lld\n", (long long)parent);
+ *       return 0;
+ *   }
+ *
+ *
+ * HOW TO READ THE COMMENTS
+ *
+ *   - Some comments have a line `Exactly`. This line is the definition and holds for every row.
+ *     The sentence before it explains a row that is one tree ("TERMS").
+ *   - The comments write close(i) for the value that bp_close or bpw_close returns for the position i, and likewise for the
+ *     other functions.
+ *   - If such an inner function returns -1 or a refusal, the outer function returns the same value. Only the functions that
+ *     list children can write this value to `out` instead. Their comments say when.
  *
  *
  * WARNING: WRONG ANSWERS FROM A NODE BUFFER THAT IS NOT AS BUILT
@@ -17,6 +52,7 @@
  * A node buffer is "as built" if it begins with exactly the entries that a build writes for this row, `bits` and `block`.
  * With such a buffer every function returns what its comment says, and never refusal 8.
  * With any other buffer a function can return a WRONG ANSWER instead of refusal 8. A wrong position is still below `bits`.
+ * Build again after each change of the row, `bits` or `block`.
  * Test every node buffer that you did not build yourself with bp_as_built or bpw_as_built before you use it.
  *
  *
@@ -30,6 +66,9 @@
  *
  * Run the two commands in the root folder of the repository. `rt` is the tool of the Rattle kit. It proves the code and
  * writes the libraries to target/staticlib. No function is in both libraries, so a program can link both.
+ * They need only the C library. This command links the program example.c:
+ *
+ *   cc -Iinclude example.c -Ltarget/staticlib -lcapi -lprobe -o example
  *
  *
  * TERMS
@@ -37,11 +76,14 @@
  *   row           An array of 64-bit words and a bit count `bits`. Bit i of the row is bit (i mod 64) of word (i div 64),
  *                 where bit 0 of a word is its least significant bit. Only the first bits / 64 words, rounded up, are used.
  *                 Bits of the last used word from position `bits` on are ignored.
+ *                 The argument `row` of a bp_ function is the array only, without `bits`. So is `words` of a bpw_ function.
  *   open bit      A 1 bit. It stands for `(`.
  *   close bit     A 0 bit. It stands for `)`.
  *   position      The index of a bit in the row, from 0.
  *   E(k)          The excess: the number of open bits minus the number of close bits among the first k bits. E(0) is 0.
  *   outline       The tree that a row encodes. Each pair of matching parentheses is one outline node.
+ *   one tree      A row is one tree if its first bit is an open bit and the matching close bit is its last bit.
+ *   root          The outline node of the first and the last bit, in a row that is one tree. Its handle is 0.
  *   handle        A position below `bits` whose bit is an open bit. If this open bit has a matching close bit, the handle
  *                 names the outline node of this pair. The functions accept every open bit as a handle.
  *   level         The number of outline nodes around an outline node. The root has level 0.
@@ -49,11 +91,13 @@
  *                 to 65,536. The last block may be shorter. Use 512 if you have no reason for another value: the benchmark
  *                 (docs/SPEED.md) uses it too.
  *   node buffer   An index over the row that makes searches fast. It stores a binary tree over the blocks, the min-max tree.
- *                 Each node of that tree covers some consecutive bits and has three signed 64-bit entries: its total excess,
- *                 and the least and the greatest excess after any of its bits, counted from its first bit.
+ *                 Each node of that tree covers some consecutive bits. It has three signed 64-bit entries, in this order:
+ *                 total, the excess after its last bit; least and greatest, the least and the greatest excess after any of
+ *                 its bits. All three are relative to the excess before its first bit.
+ *                 The entries of a node that covers no bit are 0.
  *                 bp_build and bpw_build write the node buffer. The other functions only read it.
  *
- * Example: the row `(()(()))` has 8 bits and the single word 0x1b. Its handles are 0, 1, 3 and 4.
+ * The row `(()(()))` has 8 bits and the single word 0x1b. Its handles are 0, 1, 3 and 4.
  * The outline node 0 has the children 1 and 3. The outline node 3 has the child 4.
  *
  *
@@ -69,15 +113,22 @@
  *
  * ARGUMENTS
  *
- *   - The order is: the row, its length, `bits`; `nodes`, `nodes_len`, `block`; the function's own arguments.
- *     The row is the argument `row` of a bp_ function and the argument `words` of a bpw_ function.
- *   - Functions that need no node buffer do not have the arguments `nodes`, `nodes_len` and `block`. They are root,
- *     first_child, is_leaf and one_tree, each with both prefixes.
- *   - bp_read_text and bpw_read_text take `text`, `text_len`, the row and its length. They have no argument `bits`.
+ *   - The order is: the array of the row, its length, `bits`; `nodes`, `nodes_len`, `block`; the function's own arguments.
+ *     The array is the argument `row` of a bp_ function and the argument `words` of a bpw_ function.
+ *   - The text readers are bp_read_text and bpw_read_text. They take `text`, `text_len`, the array of the row and its
+ *     length. They have no argument `bits`.
+ *   - Apart from the text readers, the functions without node buffer are root, first_child, is_leaf and one_tree, each with
+ *     both prefixes. They do not have the arguments `nodes`, `nodes_len` and `block`.
  *   - Each slice is a pointer followed by a length. The length counts elements of the pointer's type.
- *   - A pointer is never null, even if the length is 0. Then any aligned non-null pointer will do.
- *   - Each pointer is aligned for its type.
- *   - A slice that the function writes does not overlap any other slice of the same call.
+ *
+ * The caller has these duties:
+ *
+ *   - A pointer must not be null. If the length is 0, any aligned non-null pointer is allowed.
+ *   - A pointer must be aligned for its type.
+ *   - A pointer must point to as many readable elements as the length says. They must also be writable if the function
+ *     writes to the slice.
+ *   - A slice that the function writes must not overlap any other slice of the same call.
+ *   - The thread must have enough free stack. "MEMORY AND THREADS" says what the bp_ functions need.
  *
  * Nothing else is required of a caller. Every function accepts any content of its slices and any value of its numbers.
  * It never crashes and always returns. It never accesses memory of the caller outside its slices.
@@ -114,8 +165,9 @@
  *
  *   - No function keeps a pointer after it returns, allocates memory or uses global state.
  *     So calls may run in parallel on the same slices, as long as none of them writes to these slices.
- *   - A bp_ function decodes the row and the node buffer into local arrays. It needs about 25 KB of stack for them,
- *     bp_children and bp_rev_children about 58 KB. A bpw_ function works on the slices without a copy.
+ *   - A bp_ function decodes the row and the node buffer into local arrays. These arrays need about 25 KB of stack.
+ *     bp_children and bp_rev_children also have an array for `out`. Their arrays need about 58 KB of stack together.
+ *   - A bpw_ function works on the slices without a copy.
  *   - On a little-endian machine, such as x86-64, a node buffer from bp_build has the same bytes as the int64_t array from
  *     bpw_build for the same row, `bits` and `block`. */
 #ifndef FAAMOSELA_H
@@ -132,15 +184,13 @@ extern "C" {
  *
  * These items have eight bytes each: a word of the row, an entry of the node buffer, and a value that bp_children or
  * bp_rev_children writes. The least significant byte comes first. Negative values are in two's complement.
- * Lengths are in bytes. If the length of such a slice is not a multiple of 8, the one to seven bytes at its end are ignored.
- * A text has one byte per parenthesis and can have any length. More than 4,096 bytes are refusal 2.
- *
- * The comments write close(i) for the value that bp_close returns for the position i, and likewise for the other functions.
- * If such an inner function returns -1 or a refusal, the outer function returns the same value. */
+ * Lengths are in bytes. If the length of a row, a node buffer or `out` is not a multiple of 8, the one to seven bytes at its
+ * end are ignored and keep their value.
+ * A text has one byte per parenthesis. Its length need not be a multiple of 8. More than 4,096 bytes are refusal 2. */
 
 /* ---- libcapi.a ---- */
 
-/* Writes the node buffer of the row. Returns 0 on success.
+/* Writes the node buffer of the row. Returns 0 on success. The memory of `nodes` may have any content before the call.
  * Only the entries that the row needs are written. All later bytes keep their value.
  * Refusals: 1, 2, 3, 4. */
 int64_t bp_build(const uint8_t *row, size_t row_len, uint64_t bits,
@@ -152,16 +202,17 @@ int64_t bp_build(const uint8_t *row, size_t row_len, uint64_t bits,
 int64_t bp_close(const uint8_t *row, size_t row_len, uint64_t bits,
                  const uint8_t *nodes, size_t nodes_len, uint64_t block, uint64_t at);
 
-/* The bit at `at` belongs to a pair of parentheses. Returns the handle of the nearest pair around that pair, or -1 if there
- * is none.
+/* If the bit at `at` belongs to a pair of parentheses, returns the handle of the nearest pair around that pair.
+ * Returns -1 if there is none.
  * Exactly: bwd_search(at, -1) if the bit at `at` is an open bit, and bwd_search(at, -2) if it is a close bit.
  * Refusals: 1, 2, 3, 4, 8. */
 int64_t bp_enclose(const uint8_t *row, size_t row_len, uint64_t bits,
                    const uint8_t *nodes, size_t nodes_len, uint64_t block, uint64_t at);
 
-/* Returns 1 if the outline node `ancestor` contains the outline node `descendant`, 1 also if both are the same outline node,
- * and otherwise 0. Returns -1 if `ancestor` has no matching close bit.
- * Exactly: 1 if ancestor <= descendant and descendant < close(ancestor), otherwise 0.
+/* Returns -1 if `ancestor` has no matching close bit; else 1 if the outline node `ancestor` contains the outline node
+ * `descendant` or both are the same; else 0.
+ * Exactly: -1 if `ancestor` has no matching close bit; else 1 if ancestor <= descendant and descendant < close(ancestor);
+ * else 0.
  * Both handles are tested for refusal 5.
  * Refusals: 1, 2, 3, 4, 5, 8. */
 int64_t bp_is_ancestor(const uint8_t *row, size_t row_len, uint64_t bits,
@@ -188,7 +239,8 @@ int64_t bp_bwd_search(const uint8_t *row, size_t row_len, uint64_t bits,
 int64_t bp_open(const uint8_t *row, size_t row_len, uint64_t bits,
                 const uint8_t *nodes, size_t nodes_len, uint64_t block, uint64_t at);
 
-/* Returns 0, the handle of the root, or -1 if `bits` is 0. The value of bit 0 is not tested.
+/* Returns 0, the handle of the root, or -1 if `bits` is 0.
+ * Returns 0 if the row has a bit, even if bit 0 is a close bit.
  * Refusals: 2, 3. */
 int64_t bp_root(const uint8_t *row, size_t row_len, uint64_t bits);
 
@@ -197,8 +249,8 @@ int64_t bp_root(const uint8_t *row, size_t row_len, uint64_t bits);
  * Refusals: 2, 3, 5. */
 int64_t bp_first_child(const uint8_t *row, size_t row_len, uint64_t bits, uint64_t node);
 
-/* Tests whether the outline node `node` has no child.
- * Exactly: 1 if the bit after `node` is a close bit; 0 if it is an open bit or if `node` is the last position.
+/* Tests whether the bit after `node` is a close bit. If it is, the outline node `node` has no child.
+ * Returns 1 if that bit is a close bit. Returns 0 if that bit is an open bit or if `node` is the last position.
  * Refusals: 2, 3, 5. */
 int64_t bp_is_leaf(const uint8_t *row, size_t row_len, uint64_t bits, uint64_t node);
 
@@ -252,15 +304,15 @@ int64_t bp_level_prev(const uint8_t *row, size_t row_len, uint64_t bits,
 int64_t bp_level_leftmost(const uint8_t *row, size_t row_len, uint64_t bits,
                           const uint8_t *nodes, size_t nodes_len, uint64_t block, uint64_t level);
 
-/* Returns the handle of the last outline node on the level `level`, or -1 if there is none.
+/* For a row that is one tree, returns the handle of the last outline node on the level `level`, or -1 if there is none.
  * Exception: if the root has no child, it returns -1 for level 0, although the root is on level 0.
- * Exactly: open(bwd_search(2 * ones - 1, level)), where `ones` is the number of open bits, or -1 if `ones` is 0.
+ * Exactly: -1 if `ones` is 0, otherwise open(bwd_search(2 * ones - 1, level)). `ones` is the number of open bits.
+ * For any other row only `Exactly` holds. For example, it gives 0 for the row `()()` and level 0.
  * Refusals: 1, 2, 3, 4, 8. */
 int64_t bp_level_rightmost(const uint8_t *row, size_t row_len, uint64_t bits,
                            const uint8_t *nodes, size_t nodes_len, uint64_t block, uint64_t level);
 
-/* Returns 1 if the row is one tree, otherwise 0. The row is one tree if its first bit is an open bit and the matching
- * close bit is its last bit.
+/* Returns 1 if the row is one tree ("TERMS"), otherwise 0.
  * Refusals: 2, 3. */
 int64_t bp_one_tree(const uint8_t *row, size_t row_len, uint64_t bits);
 
@@ -278,8 +330,13 @@ int64_t bp_as_built(const uint8_t *row, size_t row_len, uint64_t bits,
 int64_t bp_read_text(const uint8_t *text, size_t text_len, uint8_t *row, size_t row_len);
 
 /* Writes the handles of the children of the outline node `node` to `out`, from the first to the last, and then -1.
+ * Exactly: writes first_child(node), then next_sibling(v) after each position v that it writes, up to and with the first -1.
+ * If the row is not one tree, bp_children and bp_rev_children can list different handles. For the row `(()` and `node` = 0,
+ * bp_children writes 1 and -1, and bp_rev_children writes only -1.
+ *
  * Returns the number of values that it writes. This count includes the final -1 and a written refusal.
- * Stops when `out` is full; the final -1 is then missing. Bytes after the written values keep their value.
+ * Stops when `out` is full. Bytes after the written values keep their value.
+ * `out` was too small if the last written value is not -1, or if the count is 0.
  * Size of `out`: 8 * (bits + 2) bytes always suffice. With a node buffer as built, one value per child and the final -1
  * are enough.
  *
@@ -292,6 +349,8 @@ int64_t bp_children(const uint8_t *row, size_t row_len, uint64_t bits,
                     uint64_t node, uint8_t *out, size_t out_len);
 
 /* Writes the handles of the children of the outline node `node` to `out`, from the last to the first, and then -1.
+ * Exactly: writes last_child(node), then previous_sibling(v) after each position v that it writes, up to and with the
+ * first -1.
  * The returned count, the end of the writing and the size of `out` are as for bp_children.
  *
  * Returned refusals, with no value written: 1, 2, 3, 4, 5, for wrong arguments, and 8 if the search for the last child
@@ -309,7 +368,7 @@ int64_t bp_rev_children(const uint8_t *row, size_t row_len, uint64_t bits,
  * bpw_NAME returns what bp_NAME returns, except that refusal 2 starts above 2^32 bits. The line `Exactly` of bp_NAME holds
  * for both. Lengths are in words and entries. The functions work on the slices directly, without a copy. */
 
-/* Writes the node buffer of the row. Returns 0 on success.
+/* Writes the node buffer of the row. Returns 0 on success. The memory of `nodes` may have any content before the call.
  * Only the entries that the row needs are written. All later elements keep their value.
  * Refusals: 1, 2, 3, 4. */
 int64_t bpw_build(const uint64_t *words, size_t words_len, uint64_t bits,
@@ -320,14 +379,14 @@ int64_t bpw_build(const uint64_t *words, size_t words_len, uint64_t bits,
 int64_t bpw_close(const uint64_t *words, size_t words_len, uint64_t bits,
                   const int64_t *nodes, size_t nodes_len, uint64_t block, uint64_t at);
 
-/* The bit at `at` belongs to a pair of parentheses. Returns the handle of the nearest pair around that pair, or -1 if there
- * is none.
+/* If the bit at `at` belongs to a pair of parentheses, returns the handle of the nearest pair around that pair.
+ * Returns -1 if there is none.
  * Refusals: 1, 2, 3, 4, 8. */
 int64_t bpw_enclose(const uint64_t *words, size_t words_len, uint64_t bits,
                     const int64_t *nodes, size_t nodes_len, uint64_t block, uint64_t at);
 
-/* Returns 1 if the outline node `ancestor` contains the outline node `descendant`, 1 also if both are the same outline node,
- * and otherwise 0. Returns -1 if `ancestor` has no matching close bit.
+/* Returns -1 if `ancestor` has no matching close bit; else 1 if the outline node `ancestor` contains the outline node
+ * `descendant` or both are the same; else 0.
  * Both handles are tested for refusal 5.
  * Refusals: 1, 2, 3, 4, 5, 8. */
 int64_t bpw_is_ancestor(const uint64_t *words, size_t words_len, uint64_t bits,
@@ -351,7 +410,8 @@ int64_t bpw_bwd_search(const uint64_t *words, size_t words_len, uint64_t bits,
 int64_t bpw_open(const uint64_t *words, size_t words_len, uint64_t bits,
                  const int64_t *nodes, size_t nodes_len, uint64_t block, uint64_t at);
 
-/* Returns 0, the handle of the root, or -1 if `bits` is 0. The value of bit 0 is not tested.
+/* Returns 0, the handle of the root, or -1 if `bits` is 0.
+ * Returns 0 if the row has a bit, even if bit 0 is a close bit.
  * Refusals: 2, 3. */
 int64_t bpw_root(const uint64_t *words, size_t words_len, uint64_t bits);
 
@@ -359,8 +419,8 @@ int64_t bpw_root(const uint64_t *words, size_t words_len, uint64_t bits);
  * Refusals: 2, 3, 5. */
 int64_t bpw_first_child(const uint64_t *words, size_t words_len, uint64_t bits, uint64_t node);
 
-/* Tests whether the outline node `node` has no child. Returns 1 if the bit after `node` is a close bit.
- * Returns 0 if that bit is an open bit or if `node` is the last position.
+/* Tests whether the bit after `node` is a close bit. If it is, the outline node `node` has no child.
+ * Returns 1 if that bit is a close bit. Returns 0 if that bit is an open bit or if `node` is the last position.
  * Refusals: 2, 3, 5. */
 int64_t bpw_is_leaf(const uint64_t *words, size_t words_len, uint64_t bits, uint64_t node);
 
@@ -406,13 +466,14 @@ int64_t bpw_level_prev(const uint64_t *words, size_t words_len, uint64_t bits,
 int64_t bpw_level_leftmost(const uint64_t *words, size_t words_len, uint64_t bits,
                            const int64_t *nodes, size_t nodes_len, uint64_t block, uint64_t level);
 
-/* Returns the handle of the last outline node on the level `level`, or -1 if there is none.
+/* For a row that is one tree, returns the handle of the last outline node on the level `level`, or -1 if there is none.
  * Exception: if the root has no child, it returns -1 for level 0, although the root is on level 0.
+ * For any other row only the line `Exactly` of bp_level_rightmost holds.
  * Refusals: 1, 2, 3, 4, 8. */
 int64_t bpw_level_rightmost(const uint64_t *words, size_t words_len, uint64_t bits,
                             const int64_t *nodes, size_t nodes_len, uint64_t block, uint64_t level);
 
-/* Returns 1 if the row is one tree, otherwise 0.
+/* Returns 1 if the row is one tree ("TERMS"), otherwise 0.
  * Refusals: 2, 3. */
 int64_t bpw_one_tree(const uint64_t *words, size_t words_len, uint64_t bits);
 
@@ -431,7 +492,8 @@ int64_t bpw_read_text(const uint8_t *text, size_t text_len, uint64_t *words, siz
 
 /* Writes the handles of the children of the outline node `node` to `out`, from the first to the last, and then -1.
  * Returns the number of values that it writes. This count includes the final -1 and a written refusal.
- * Stops when `out` is full; the final -1 is then missing. Elements after the written values keep their value.
+ * Stops when `out` is full. Elements after the written values keep their value.
+ * `out` was too small if the last written value is not -1, or if the count is 0.
  * Size of `out`: bits + 2 elements always suffice. With a node buffer as built, one element per child and one for the
  * final -1 are enough.
  * Returned refusals: 1, 2, 3, 4, 5. Written refusal: 8. The cases are those of bp_children. */

@@ -10,6 +10,10 @@ maxBits = 4294967296
 abbrev pub maxBytes : ℕ
 maxBytes = 536870912
 
+-- They fill 2^26 words.
+abbrev pub maxWords : ℕ
+maxWords = 67108864
+
 -- A row that the program `levels` reads, or that crosses the C boundary as bytes, has at most 4,096 bits.
 abbrev pub maxShortBits : ℕ
 maxShortBits = 4096

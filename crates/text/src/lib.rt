@@ -7,6 +7,7 @@ ghost use mathlib.Core.Path.{_≡_};
 ghost use mathlib.Core.List.{_++_};
 ghost use Prim.Native.Nat.{_*_, _≤_, _<_};
 ghost use lib.ListN.{length, drop};
+ghost use Rattle.row.specs.Limits.{maxWords};
 ghost use Rattle.row.specs.Writes.{Writes};
 ghost use Rattle.row.specs.Answer.{paperRead};
 ghost use Rattle.text.specs.Text.{isParenthesis, allParentheses, textBit, wordOf, wordsOf, textGate, readAnswer, textWords};
@@ -47,7 +48,7 @@ fn text_bit(text: &[u8], i: usize) -> u64
 
 // Returns word k of the text: bits 64k to 64k + 63. It goes from the last bit to the first, so each step doubles and adds one bit.
 fn word_of(text: &[u8], k: usize) -> u64
-    requires { ⌜ k ≤ 67108864 ⌝ }
+    requires { ⌜ k ≤ maxWords ⌝ }
     ensures { λ r. ⌜ r ≡ wordOf (now (text .entry)) k ⌝ }
 {
     let mut w: u64 = 0;
@@ -61,7 +62,7 @@ fn word_of(text: &[u8], k: usize) -> u64
 
 // Writes the first `need` words of the text. The words after them are unchanged.
 fn write_words(text: &[u8], words: &mut [u64], need: usize)
-    requires { ⌜ (need ≤ 67108864) × (need ≤ length (now words)) ⌝ }
+    requires { ⌜ (need ≤ maxWords) × (need ≤ length (now words)) ⌝ }
     ensures { λ r. ⌜ now (words .exit) ≡ wordsOf (now (text .entry)) need ++ drop need (now (words .entry)) ⌝ }
 {
     let mut k: usize = 0;

@@ -11,6 +11,7 @@ use lib.IntN.{negsuc, _-ℤ_}
 use mir.Syntax.{w64}
 use mir.Val.{SFits, toZ}
 use mir.ValLaws.{toZ-pos}
+use Rattle.row.specs.Limits.{maxBits}
 use Rattle.row.specs.declared.refusal.Refusal.{Refusal}
 use Rattle.row.specs.declared.refusal.Refusal.the-variants.{BlockSize, TooManyBits, TooFewWords, TooFewNodes, NotAHandle, NotAParenthesis, NotOneTree, NodesMisfit}
 use Rattle.row.specs.Answer.{Answer, at, numberOf}
@@ -34,5 +35,5 @@ below n h = rw (toZ-pos w64 n (omega arith)) (under n)
 pub negsuc-fits : (n : ℕ) → n < 9 → SFits w64 (negsuc n)
 negsuc-fits n h = record { sfits = omega arith }
 
-pub small-at : (a : Answer) (j : ℕ) → a ≡ at j → Small a → j ≤ 4294967296
+pub small-at : (a : Answer) (j : ℕ) → a ≡ at j → Small a → j ≤ maxBits
 small-at a j e h = rw e at h

@@ -39,15 +39,15 @@ struct Copies {
 impl Case {
     /// Creates a case from any arguments.
     pub fn new(words: Vec<u64>, bits: u64, nodes: Vec<i64>, block: u64, rng: &mut Rng) -> Self {
-        let lent = Passed { words: &words, bits, nodes: &nodes, block, most: MOST_WORDS };
-        let standing = lent.admit();
-        let as_built = standing.is_ok() && lent.as_built();
-        let row = lent.admit_row().map(|()| Row::of_words(&words, bits as usize)).ok();
+        let passed = Passed { words: &words, bits, nodes: &nodes, block, most: MOST_WORDS };
+        let standing = passed.admit();
+        let as_built = standing.is_ok() && passed.as_built();
+        let row = passed.admit_row().map(|()| Row::of_words(&words, bits as usize)).ok();
         let originals = row.as_ref().map(|row| {
             // With debug assertions on, the original panics on surplus words.
-            let lent = if cfg!(debug_assertions) { &row.words } else { &words };
+            let passed = if cfg!(debug_assertions) { &row.words } else { &words };
             let block = if BLOCKS.contains(&block) { block } else { BLOCKS[0] };
-            [lent, &row.words].map(|words| original_over(words, row.bits, block))
+            [passed, &row.words].map(|words| original_over(words, row.bits, block))
         });
         let bytes = (ours::bytes_of(&words, u64::to_le_bytes, rng), ours::bytes_of(&nodes, i64::to_le_bytes, rng));
         let copies = Copies { words: words.clone(), nodes: nodes.clone(), bytes: bytes.clone() };
@@ -94,13 +94,13 @@ impl Case {
     ///
     /// Panics if an answer differs, unless [`Known`] names the difference. Panics if the call changes a slice.
     pub fn check(&self, call: Call, tally: &mut Tally) {
-        let plain = plain::ask(self.lent(MOST_WORDS), call);
+        let plain = plain::ask(self.passed(MOST_WORDS), call);
         let ours = ours::over_words(&self.words, self.bits, &self.nodes, self.block, call);
         self.same("over words", call, &ours, "the second implementation", &plain);
         self.check_original(call, &ours, tally);
 
         let ours = ours::over_bytes(&self.bytes.0, self.bits, &self.bytes.1, self.block, call);
-        let plain = if self.bits <= MOST_BYTES { plain } else { plain::ask(self.lent(MOST_BYTES), call) };
+        let plain = if self.bits <= MOST_BYTES { plain } else { plain::ask(self.passed(MOST_BYTES), call) };
         self.same("over bytes", call, &ours, "the second implementation", &plain);
 
         self.unchanged(call);
@@ -113,9 +113,9 @@ impl Case {
         if let Some(known) = known {
             tally.known[known as usize] += 1;
         }
-        let Some([of_lent, of_row]) = &self.originals else { return };
+        let Some([of_passed, of_row]) = &self.originals else { return };
         let asked = match known {
-            None => of_lent,
+            None => of_passed,
             Some(Known::Surplus) => of_row,
             Some(_) => return,
         };
@@ -128,7 +128,7 @@ impl Case {
         }
     }
 
-    fn lent(&self, most: u64) -> Passed<'_> {
+    fn passed(&self, most: u64) -> Passed<'_> {
         Passed { words: &self.words, bits: self.bits, nodes: &self.nodes, block: self.block, most }
     }
 

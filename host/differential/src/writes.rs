@@ -12,13 +12,13 @@ pub fn check_build(words: &[u64], bits: u64, nodes: &[i64], block: u64, rng: &mu
     let told =
         |way: &str| format!("build over {way}: bits {bits}, block {block}, {} entries, words {words:x?}", nodes.len());
 
-    let lent = |most| Passed { words, bits, nodes, block, most };
-    let (wanted, left) = written(lent(MOST_WORDS), nodes);
+    let passed = |most| Passed { words, bits, nodes, block, most };
+    let (wanted, left) = written(passed(MOST_WORDS), nodes);
     let mut ours = nodes.to_vec();
     let answer = vault::words::build(words, bits, &mut ours, block).map_err(|refusal| refusal.number());
     assert_eq!((answer, &ours), (wanted, &left), "{}", told("words"));
 
-    let (wanted, left) = written(lent(MOST_BYTES), nodes);
+    let (wanted, left) = written(passed(MOST_BYTES), nodes);
     let row = bytes_of(words, u64::to_le_bytes, rng);
     let before = bytes_of(nodes, i64::to_le_bytes, rng);
     let mut ours = before.clone();
@@ -27,20 +27,20 @@ pub fn check_build(words: &[u64], bits: u64, nodes: &[i64], block: u64, rng: &mu
     assert_eq!(ours[8 * nodes.len()..], before[8 * nodes.len()..], "{}: the extra bytes changed", told("bytes"));
     tally.calls += 2;
 
-    if lent(MOST_WORDS).admit().is_ok() {
+    if passed(MOST_WORDS).admit().is_ok() {
         let row = Row::of_words(words, bits as usize);
         let theirs = original::node_numbers(&original::row(row.words, row.bits), block as usize);
-        assert_eq!(lent(MOST_WORDS).build(), theirs, "{}: the entries differ from the original", told("words"));
+        assert_eq!(passed(MOST_WORDS).build(), theirs, "{}: the entries differ from the original", told("words"));
         tally.original += 1;
     }
 }
 
 /// Returns the answer that a build has to give, and the content that its node buffer has to have afterwards.
-fn written(lent: Passed, nodes: &[i64]) -> (Result<(), u8>, Vec<i64>) {
+fn written(passed: Passed, nodes: &[i64]) -> (Result<(), u8>, Vec<i64>) {
     let mut left = nodes.to_vec();
-    let answer = lent.admit();
+    let answer = passed.admit();
     if answer.is_ok() {
-        let built = lent.build();
+        let built = passed.build();
         left[..built.len()].copy_from_slice(&built);
     }
     (answer, left)

@@ -30,7 +30,7 @@ fn rows_in_blocks_of_512() {
 }
 
 #[test]
-fn whatever_is_lent() {
+fn whatever_is_passed() {
     let tally = tallied(1, 20_000, |rng, tally| rounds::dishonest(rng, 5000, tally));
     assert!(tally.hostile > 1_000_000);
     for known in [Known::HugeLevel, Known::BadHandle, Known::ForeignNodes, Known::TooShort, Known::OddBlock] {

@@ -54,10 +54,11 @@ fn steps(children: Result<Children, Refusal>, room: usize) -> Answer {
 
 /// Compares 100 random calls on a tree.
 fn check(case: &Case, tree: &Tree, rng: &mut Rng) {
-    let lent = Passed { words: &case.words, bits: case.bits, nodes: &case.nodes, block: case.block, most: MOST_WORDS };
+    let passed =
+        Passed { words: &case.words, bits: case.bits, nodes: &case.nodes, block: case.block, most: MOST_WORDS };
     for _ in 0..100 {
         let call = Call::any(rng, case);
-        assert_eq!(ask(tree, call), plain::ask(lent, call), "{call:?} of {tree:?}");
+        assert_eq!(ask(tree, call), plain::ask(passed, call), "{call:?} of {tree:?}");
     }
 }
 

@@ -7,6 +7,7 @@ use lib.ListN.{length}
 use lib.Seq.{length-take-le}
 use mir.Syntax.{w64}
 use mir.ValLaws.{toZ-ofZ}
+use Rattle.wire.specs.Limit.{numberRoom}
 use Rattle.row.specs.Answer.{at}
 use Rattle.row.specs.Gates.{through}
 use Rattle.mmt_layout.specs.Layout.{nodesGate}
@@ -32,14 +33,14 @@ slice-aggregate-build c =
 
 slice-aggregate-build-2 : tie.Need-slice-aggregate-build-2
 slice-aggregate-build-2 c =
-    let h : c .before .before .before .fitting .result ≤ 3069 = omega (arith, c .before .before .before .fitting .ensures) in
+    let h : c .before .before .before .fitting .result ≤ numberRoom = omega (arith, c .before .before .before .fitting .ensures) in
     sym (length-take-le _ _ h)
 
 build-requires : tie.Need-build-requires
 build-requires c κs =
     let f = c .before .before .before .before in
     let m = f .fitting in
-    let h : m .result ≤ 3069 = omega (arith, m .ensures) in
+    let h : m .result ≤ numberRoom = omega (arith, m .ensures) in
     let e : 8 * m .result ≤ length (entry (words f) .args .nodes .now) = omega (arith, m .ensures) in
     rw (length-take-le _ _ h) e
 
@@ -52,7 +53,7 @@ returns c =
     let a = entry (words f) .args in
     let w = words f .take-words .ensures in
     let m = f .fitting in
-    let h : m .result ≤ 3069 = omega (arith, m .ensures) in
+    let h : m .result ≤ numberRoom = omega (arith, m .ensures) in
     let e = b .build .ensures in
     let p = w .slice ∙ ap (wordsIn (a .row .now)) (w .answer) in
     let q = n .bits .ensures in

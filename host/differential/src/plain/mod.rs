@@ -40,37 +40,37 @@ pub struct Passed<'a> {
 type Found = Result<Option<u64>, u8>;
 
 /// Makes a call.
-pub fn ask(lent: Passed, call: Call) -> Answer {
+pub fn ask(passed: Passed, call: Call) -> Answer {
     let found = |found: Found| found.map(Answer::from);
     let answer = match call {
-        Call::FwdSearch { at, r } => lent.admit().and_then(|()| found(lent.search(Forward, at, r.into()))),
-        Call::BwdSearch { at, r } => lent.admit().and_then(|()| found(lent.search(Backward, at, r.into()))),
-        Call::Close { at } => lent.admit().and_then(|()| found(lent.close(at))),
-        Call::Open { at } => lent.admit().and_then(|()| found(lent.open(at))),
-        Call::Enclose { at } => lent.admit().and_then(|()| found(lent.enclose(at))),
-        Call::Root => lent.admit_row().map(|()| Answer::from((lent.bits > 0).then_some(0))),
-        Call::Parent { node } => lent.admit_node(node).and_then(|()| found(lent.enclose(node))),
-        Call::FirstChild { node } => lent.admit_handle(node).map(|()| Answer::from(lent.first_child(node))),
-        Call::LastChild { node } => lent.admit_node(node).and_then(|()| found(lent.last_child(node))),
-        Call::NextSibling { node } => lent.admit_node(node).and_then(|()| found(lent.next_sibling(node))),
-        Call::PreviousSibling { node } => lent.admit_node(node).and_then(|()| found(lent.previous_sibling(node))),
-        Call::IsLeaf { node } => lent.admit_handle(node).map(|()| Answer::from(lent.is_leaf(node))),
-        Call::IsAncestor { ancestor, descendant } => lent
+        Call::FwdSearch { at, r } => passed.admit().and_then(|()| found(passed.search(Forward, at, r.into()))),
+        Call::BwdSearch { at, r } => passed.admit().and_then(|()| found(passed.search(Backward, at, r.into()))),
+        Call::Close { at } => passed.admit().and_then(|()| found(passed.close(at))),
+        Call::Open { at } => passed.admit().and_then(|()| found(passed.open(at))),
+        Call::Enclose { at } => passed.admit().and_then(|()| found(passed.enclose(at))),
+        Call::Root => passed.admit_row().map(|()| Answer::from((passed.bits > 0).then_some(0))),
+        Call::Parent { node } => passed.admit_node(node).and_then(|()| found(passed.enclose(node))),
+        Call::FirstChild { node } => passed.admit_handle(node).map(|()| Answer::from(passed.first_child(node))),
+        Call::LastChild { node } => passed.admit_node(node).and_then(|()| found(passed.last_child(node))),
+        Call::NextSibling { node } => passed.admit_node(node).and_then(|()| found(passed.next_sibling(node))),
+        Call::PreviousSibling { node } => passed.admit_node(node).and_then(|()| found(passed.previous_sibling(node))),
+        Call::IsLeaf { node } => passed.admit_handle(node).map(|()| Answer::from(passed.is_leaf(node))),
+        Call::IsAncestor { ancestor, descendant } => passed
             .admit_node(ancestor)
-            .and_then(|()| lent.admit_node(descendant))
-            .and_then(|()| lent.is_ancestor(ancestor, descendant))
+            .and_then(|()| passed.admit_node(descendant))
+            .and_then(|()| passed.is_ancestor(ancestor, descendant))
             .map(Answer::from),
         Call::LevelAncestor { node, level } => {
-            lent.admit_node(node).and_then(|()| found(lent.level_ancestor(node, level)))
+            passed.admit_node(node).and_then(|()| found(passed.level_ancestor(node, level)))
         }
-        Call::LevelNext { node } => lent.admit_node(node).and_then(|()| found(lent.level_next(node))),
-        Call::LevelPrev { node } => lent.admit_node(node).and_then(|()| found(lent.level_prev(node))),
-        Call::LevelLeftmost { level } => lent.admit().and_then(|()| found(lent.level_leftmost(level))),
-        Call::LevelRightmost { level } => lent.admit().and_then(|()| found(lent.level_rightmost(level))),
-        Call::Children { node, room } => lent.listing(node, room, Forward).map(Answer::Steps),
-        Call::RevChildren { node, room } => lent.listing(node, room, Backward).map(Answer::Steps),
-        Call::OneTree => lent.admit_row().map(|()| Answer::from(lent.one_tree())),
-        Call::AsBuilt => lent.admit().map(|()| Answer::from(lent.as_built())),
+        Call::LevelNext { node } => passed.admit_node(node).and_then(|()| found(passed.level_next(node))),
+        Call::LevelPrev { node } => passed.admit_node(node).and_then(|()| found(passed.level_prev(node))),
+        Call::LevelLeftmost { level } => passed.admit().and_then(|()| found(passed.level_leftmost(level))),
+        Call::LevelRightmost { level } => passed.admit().and_then(|()| found(passed.level_rightmost(level))),
+        Call::Children { node, room } => passed.listing(node, room, Forward).map(Answer::Steps),
+        Call::RevChildren { node, room } => passed.listing(node, room, Backward).map(Answer::Steps),
+        Call::OneTree => passed.admit_row().map(|()| Answer::from(passed.one_tree())),
+        Call::AsBuilt => passed.admit().map(|()| Answer::from(passed.as_built())),
     };
     answer.unwrap_or_else(Answer::refused)
 }
