@@ -3,7 +3,7 @@
 --   order: the first test that fails gives its number
 --   build-leaves, read-leaves: a refused build leaves the node buffer unchanged, and a refused reading leaves the words unchanged
 --
--- Rattle proves of every function that it terminates and never traps, so this file does not state it.
+-- Rattle proves of every function that it terminates and never crashes, so this file does not state it.
 -- It says nothing of listings either: their steps answer what the child and sibling calls answer.
 -- Three calls are passed a slice that they may write: `build`, the text reader and `list`. What `list` leaves in its slice `out` is fixed by
 -- `leftOf` in list_slice: if the constructor is refused, that is `out` unchanged.
