@@ -1,6 +1,8 @@
 // Reads one line of parentheses for the program `levels`: finds the text, tests refusals 2, 6 and 7 in this order, and fills the words.
 //
 // This crate prints nothing. So its promises state what is refused, and in which order, without any page. `test_replay` uses `line_end` too.
+#![tactic(auto)]
+
 ghost use Rattle.std.specs.Prelude.{◌≡◌, length};
 ghost use Rattle.row.specs.Writes.{Writes};
 ghost use Rattle.io.specs.Counts.{IsPrefixLen};

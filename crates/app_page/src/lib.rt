@@ -2,6 +2,8 @@
 // cover all output. `put`, `put_text` and `put_number` put something after the first `at` bytes and answer how many bytes are then filled.
 //
 // This crate knows only bytes and numbers. What they mean is up to the caller.
+#![tactic(auto)]
+
 ghost use Rattle.std.specs.Prelude.{[], ◌∷◌};
 ghost use Rattle.io.specs.Counts.{IsPrefixLen};
 ghost use Rattle.app_page.specs.Page.{Adds, decimal_of};

@@ -4,6 +4,8 @@
 // bits at its start this way, before it creates the table.
 //
 // The functions refuse nothing. Callers keep the bounds that a `requires` states.
+#![tactic(auto)]
+
 ghost use Rattle.std.specs.Prelude.{◌≡◌, ◌-◌, ◌<◌, length};
 ghost use Rattle.row.specs.Bits.{bit_at};
 ghost use Rattle.row.specs.Way.{forward, backward};

@@ -4,6 +4,8 @@
 // other functions. No other crate reads its entries.
 //
 // The functions refuse nothing. Callers keep the bounds that a `requires` states.
+#![tactic(auto)]
+
 mod block;
 mod encoding;
 mod summary;

@@ -4,6 +4,8 @@
 // whether a row is one tree.
 //
 // The functions refuse nothing. Callers keep the bounds that a `requires` states.
+#![tactic(auto)]
+
 ghost use Rattle.std.specs.Prelude.{◌≡◌, ◌+◌, ◌-◌, ◌*◌, ◌%◌, ◌<◌, length};
 ghost use Rattle.row.specs.Limits.{max_bits, max_bytes};
 ghost use Rattle.row.specs.Bits.{bit_at};

@@ -4,6 +4,8 @@
 // Whole bytes are read word by word: a word is read once, and its bytes are shifted out of it.
 //
 // The functions refuse nothing. Callers keep the bounds that a `requires` states.
+#![tactic(auto)]
+
 mod backward;
 mod forward;
 

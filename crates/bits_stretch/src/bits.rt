@@ -11,7 +11,7 @@ ghost use Rattle.bits_stretch.specs.Scan.{scan};
 use crate::summary::{Summary, join};
 
 // Result of a scan: the position that it hits, or the remainder that it leaves.
-#[derive(Drop)]
+#[derive(Clone, Copy)]
 pub enum Scanned {
     Hit(usize),
     Left(i64),

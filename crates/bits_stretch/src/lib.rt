@@ -5,6 +5,8 @@
 // block scans and the min-max tree all use this crate.
 //
 // The functions refuse nothing. Callers keep the bounds that a `requires` states.
+#![tactic(auto)]
+
 mod bits;
 mod summary;
 

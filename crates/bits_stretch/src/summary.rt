@@ -3,7 +3,7 @@ ghost use Rattle.std.specs.Prelude.{◌≡◌};
 ghost use Rattle.bits_stretch.specs.Summary.{TamePair, join_of, holds_for, holds_back};
 
 // Total, least and greatest running excess. The running excess is counted after each bit, from the start of the stretch.
-#[derive(Drop)]
+#[derive(Clone, Copy)]
 pub struct Summary {
     pub total: i64,
     pub least: i64,

@@ -2,6 +2,8 @@
 //
 // Each call tests its arguments and refuses bad ones by a number. A call that searches then answers what the walk finds; over a node buffer
 // as built this is the definition of SCOPE, The calls. No call writes to the words or to the node buffer.
+#![tactic(auto)]
+
 pub use bp_family::{is_ancestor, last_child, next_sibling, parent, previous_sibling};
 pub use bp_handle::{admit_node, first_child, is_leaf, root};
 pub use bp_level::{level_ancestor, level_leftmost, level_next, level_prev, level_rightmost};

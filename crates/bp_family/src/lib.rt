@@ -2,6 +2,8 @@
 //
 // Every call tests refusals 1 to 5 in this order, and the walk may give refusal 8. `nothing` and refusals of a search are propagated
 // unchanged.
+#![tactic(auto)]
+
 mod ancestor;
 mod sibling;
 

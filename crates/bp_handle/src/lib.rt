@@ -2,6 +2,8 @@
 //
 // A handle is the position of the open bit of an outline node. Anything else is refusal 5. The calls `root`, `first_child` and `is_leaf`
 // read only the row and take no node buffer. So they test only refusals 2 and 3, and refusal 5 if they take a handle.
+#![tactic(auto)]
+
 mod bare;
 mod gate;
 

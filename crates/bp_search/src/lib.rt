@@ -2,6 +2,8 @@
 //
 // They test refusals 1 to 4, and the walk may give refusal 8. The words and the node buffer are borrowed and never written. Over nodes as
 // built the answers are the definitions of SCOPE, The two searches and The calls.
+#![tactic(auto)]
+
 ghost use Rattle.std.specs.Prelude.{◌≡◌, negsuc};
 ghost use Rattle.row.specs.Answer.{paper_found};
 ghost use Rattle.row.specs.Search.{fwd, bwd};

@@ -4,7 +4,7 @@
 
 // A call with its arguments, apart from the row, the node buffer and the block size. A usize is a position or a handle, an i64 is a searched
 // difference, a u64 is a level.
-#[derive(Drop)]
+#[derive(Clone, Copy)]
 pub enum Question {
     FwdSearch(usize, i64),
     BwdSearch(usize, i64),

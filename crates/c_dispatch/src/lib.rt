@@ -2,6 +2,8 @@
 // and this dispatch.
 //
 // A request names a call or a test, with its arguments. No public function here has a `requires`: the calls test their arguments.
+#![tactic(auto)]
+
 mod bytes;
 mod reader;
 mod request;

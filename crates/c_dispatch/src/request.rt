@@ -7,7 +7,7 @@ ghost use Rattle.c_dispatch.specs.Requests.{requested};
 use bp_spec::Question;
 
 // A call with its arguments, the one-tree test, or the as-built test.
-#[derive(Drop)]
+#[derive(Clone, Copy)]
 pub enum Request {
     Call(Question),
     OneTree,

@@ -2,6 +2,8 @@
 //
 // A slice of numbers gets one number per answer, a slice of bytes eight bytes. The result is the number of answers written, or the refusal of
 // the constructor. The exported functions are one call each; this crate is separate so that they are checked without these proofs.
+#![tactic(auto)]
+
 mod bytes;
 mod numbers;
 

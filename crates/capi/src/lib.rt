@@ -2,6 +2,8 @@
 //
 // The passed bytes are decoded into arrays, as much as fits; no row of 4,096 bits needs more. A call over the arrays then tests and answers.
 // A row of more than 4,096 bits is refusal 2. Only a successful build writes.
+#![tactic(auto)]
+
 ghost use Rattle.std.specs.Prelude.{◌≡◌};
 ghost use Rattle.row.specs.Writes.{Writes};
 ghost use Rattle.bp_spec.specs.declared.question.Question.TheVariants.{Close, Enclose, IsAncestor};

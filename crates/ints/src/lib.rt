@@ -1,6 +1,8 @@
 // The lesser and the greater of two signed numbers. Neither function refuses anything.
 //
 // The crate exists for the laws in its proofs/: with them `omega` proves linear facts about signed numbers in every crate above.
+#![tactic(auto)]
+
 ghost use Rattle.std.specs.Prelude.{◌≡◌};
 ghost use Rattle.ints.specs.Order.{min_z, max_z};
 

@@ -9,7 +9,7 @@ ghost use Rattle.list_slice.specs.Seek.{sought, held_after, Starts};
 use row::{Found, Gate};
 
 // The answer of a listing's constructor, and what the listing then holds.
-#[derive(Drop)]
+#[derive(Clone, Copy)]
 pub struct Start {
     pub gate: Gate,
     pub held: Found,

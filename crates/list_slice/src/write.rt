@@ -12,7 +12,7 @@ use crate::seek::Start;
 use row::{Found, Gate, Refusal};
 
 // The answer of `list`: the number of answers written, or the refusal of the constructor.
-#[derive(Drop)]
+#[derive(Clone, Copy)]
 pub enum Listed {
     Count(usize),
     Refused(Refusal),

@@ -2,7 +2,7 @@
 use row::{Found, Gate};
 
 // A listing. Its fields have the order in which every call takes its arguments.
-#[derive(Drop)]
+#[derive(Clone, Copy)]
 pub struct Children<'a> {
     pub words: &'a [u64],
     pub n: usize,
@@ -16,14 +16,14 @@ pub struct Children<'a> {
 
 // The result of a constructor. An enum cannot have a reference, so a refused constructor returns the refusal in `gate`, together with a
 // listing that has ended.
-#[derive(Drop)]
+#[derive(Clone, Copy)]
 pub struct Made<'a> {
     pub gate: Gate,
     pub listing: Children<'a>,
 }
 
 // The result of a step: its answer, and the listing to go on with.
-#[derive(Drop)]
+#[derive(Clone, Copy)]
 pub struct Step<'a> {
     pub found: Found,
     pub rest: Children<'a>,

@@ -2,6 +2,8 @@
 //
 // Both begin with the tests for refusals 1 to 4. A refused build has written nothing.
 // Entries of the buffer after the last min-max node are neither read nor written.
+#![tactic(auto)]
+
 mod builder;
 mod check;
 mod rule;

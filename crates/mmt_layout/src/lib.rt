@@ -1,6 +1,8 @@
 // The layout of the min-max tree in the node buffer: inner nodes first, then block leaves. The children of node k are nodes 2k+1 and 2k+2.
 // `admit` makes the tests for refusals 1 to 4, in this order. Every call that takes a node buffer begins with it.
 // After `Gate::Pass` the words and the node buffer are long enough for n bits (specs/Layout.antt, record `Fine`).
+#![tactic(auto)]
+
 ghost use Rattle.std.specs.Prelude.{◌≡◌, ◌≤◌};
 ghost use Rattle.row.specs.Limits.{max_bits};
 ghost use Rattle.mmt_layout.specs.Layout.{inner_for, layout_of, block_gate, room_gate, nodes_gate, max_block, max_leaves};
@@ -14,7 +16,7 @@ pub const MAX_BLOCK: usize = 65536;
 pub const WIDTH: usize = 3;
 
 // The numbers of block leaves and of inner nodes. The first block leaf is the node with the index `inner`.
-#[derive(Drop)]
+#[derive(Clone, Copy)]
 pub struct Layout {
     pub leaves: usize,
     pub inner: usize,

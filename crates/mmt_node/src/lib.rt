@@ -1,6 +1,8 @@
 // One min-max node: reads and writes its three entries in the node buffer, and computes an inner node from its children.
 // specs/Nodes.antt defines the entries of every node. The crate mmt_build computes the block leaves from the bits.
 // No function here refuses. The caller passes a node that the buffer has room for.
+#![tactic(auto)]
+
 ghost use Rattle.std.specs.Prelude.{◌≡◌, ◌+◌, ◌*◌, ◌≤◌, length};
 ghost use Rattle.mmt_layout.specs.Layout.{width};
 ghost use Rattle.mmt_node.specs.Nodes.{node_at, with_node, inner_of, Joinable};

@@ -2,6 +2,8 @@
 //
 // It takes no node buffer. It reads the bits once, eight at a time, for the summary of all bits but the last. The last bit must be
 // a close bit.
+#![tactic(auto)]
+
 ghost use Rattle.std.specs.Prelude.{◌≡◌, ◌-◌, ◌*◌, ◌≤◌, ◌&&◌, pos, length};
 ghost use Rattle.std.specs.Int.Signed.{lt_z};
 ghost use Rattle.row.specs.Limits.{max_bits};

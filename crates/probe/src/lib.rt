@@ -3,6 +3,8 @@
 //
 // A static library exports the marked functions of one crate, so all 44 functions are here. Each one makes one or two calls; the crates
 // c_dispatch, c_listings and wire have the code that they share. No function has a `requires`: each tests its arguments. The answer is one i64.
+#![tactic(auto)]
+
 mod byte_level;
 mod byte_listings;
 mod byte_node;

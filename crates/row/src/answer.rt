@@ -2,7 +2,7 @@
 use crate::refusal::Refusal;
 
 // Answer of a search, and of every other call that returns a position.
-#[derive(Drop)]
+#[derive(Clone, Copy)]
 pub enum Found {
     At(usize),
     Nothing,
@@ -10,7 +10,7 @@ pub enum Found {
 }
 
 // Answer of a yes-or-no call.
-#[derive(Drop)]
+#[derive(Clone, Copy)]
 pub enum Told {
     Yes,
     No,
@@ -19,14 +19,14 @@ pub enum Told {
 }
 
 // Answer of a build of the min-max nodes.
-#[derive(Drop)]
+#[derive(Clone, Copy)]
 pub enum Built {
     Done,
     Refused(Refusal),
 }
 
 // Answer of the text reader: the bit count of the text.
-#[derive(Drop)]
+#[derive(Clone, Copy)]
 pub enum Read {
     Bits(usize),
     Refused(Refusal),

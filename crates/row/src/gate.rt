@@ -8,7 +8,7 @@ use crate::limit::MAX_BITS;
 use crate::refusal::Refusal;
 
 // Result of the tests before a call: all pass, or one of them refuses.
-#[derive(Drop)]
+#[derive(Clone, Copy)]
 pub enum Gate {
     Pass,
     Refuse(Refusal),

@@ -5,6 +5,8 @@
 // bit, excess, the two searches, one tree.
 //
 // A function with a `requires` makes no test of its own, because its callers have passed `admit_row`.
+#![tactic(auto)]
+
 mod answer;
 mod bits;
 mod gate;

@@ -2,6 +2,8 @@
 //
 // deep and wide have 4,096 parentheses; in wide, byte 4,097 is the newline. The three files after them have no newline in their first 4,097
 // bytes.
+#![tactic(auto)]
+
 use libc::STDOUT_FILENO;
 
 fn case(path: &[u8]) {

@@ -9,6 +9,8 @@
 //
 // Some rows end with a block (8, 16 and 80 bits) or with a word (64 bits). Some end just after a block (9, 17, 25 and 82 bits) or just after a
 // word (130 and 258 bits).
+#![tactic(auto)]
+
 use libc::{STDIN_FILENO, STDOUT_FILENO};
 use list_slice::Listed;
 use row::{Built, Found, Gate, Read, Refusal, Told};

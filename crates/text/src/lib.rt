@@ -3,6 +3,8 @@
 // The reader tests the whole text before it writes the first word. The tests are refusal 2 for too many bytes, 6 for a byte that
 // is no parenthesis, then 3 for too few words. On refusal all words are unchanged. On success the words that the bits need are
 // written, their unused bits are 0, and the words after them are unchanged.
+#![tactic(auto)]
+
 ghost use Rattle.std.specs.Prelude.{◌≡◌, ◌++◌, ◌*◌, ◌≤◌, ◌<◌, length, drop};
 ghost use Rattle.row.specs.Limits.{max_words};
 ghost use Rattle.row.specs.Writes.{Writes};

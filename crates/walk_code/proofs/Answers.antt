@@ -45,10 +45,10 @@ use Rattle.walk_spec.proofs.Stretches.{block_place}
 use Rattle.walk_examine.specs.Asked.{Room}
 use Rattle.walk_climb.specs.declared.path.Climbed.TheVariants.{Turn, Out, Misfit as MisfitClimbed}
 use Rattle.walk_climb.specs.Climbed.{climbed_of}
-use Rattle.walk_climb.proofs.Climbed.{Turned, turned}
+use Rattle.walk_climb.proofs.Climbs.{Turned, turned}
 use Rattle.walk_descend.specs.declared.path.Descended.TheVariants.{Leaf, Lost}
 use Rattle.walk_descend.specs.Descended.{descended_of}
-use Rattle.walk_descend.proofs.Descended.{descend_count, Landed, landed}
+use Rattle.walk_descend.proofs.Descends.{descend_count, Landed, landed}
 
 -- ---- a climb or a descent, given its result without the count of examined nodes
 turn_is : (x : Climb) (k h : ℕ) (r : ℤ) → climbed_of x ≡ Turn k h r → (c : ℕ) × (x ≡ turn k h r c)

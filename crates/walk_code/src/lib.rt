@@ -3,6 +3,8 @@
 //
 // Callers make the tests for refusals 1 to 4 before. The node buffer may be foreign: refusal 8 is given for the three reasons in
 // SCOPE, How a search walks (When refusal 8 is given), and for no other.
+#![tactic(auto)]
+
 mod backward;
 mod forward;
 

@@ -1,1 +1,1 @@
-pub mod Descended
+pub mod Descends

@@ -2,7 +2,7 @@
 
 // `Leaf`: the node that was reached, and the remainder. It is a block leaf if no level is left.
 // `Lost`: the descent is refused.
-#[derive(Drop)]
+#[derive(Clone, Copy)]
 pub enum Descended {
     Leaf(usize, i64),
     Lost,

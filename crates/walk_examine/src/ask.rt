@@ -9,7 +9,7 @@ ghost use Rattle.walk_examine.specs.Asked.{examined_of, asked_of, Askable};
 use bits_stretch::Summary;
 
 // The entries of a node, or `Misfit` if one of them is below -2^32 or above 2^32.
-#[derive(Drop)]
+#[derive(Clone, Copy)]
 pub enum Examined {
     Fit(Summary),
     Misfit,
@@ -17,7 +17,7 @@ pub enum Examined {
 
 // The answer of a node that is asked for a remainder: it qualifies (`Here`); it is passed, with the remainder after it (`Past`);
 // it does not exist (`Absent`); an entry is out of range (`Misfit`).
-#[derive(Drop)]
+#[derive(Clone, Copy)]
 pub enum Asked {
     Here,
     Past(i64),

@@ -2,6 +2,8 @@
 //
 // The node buffer may be foreign. The range test comes before any use of an entry, so no sum leaves an i64.
 // A node that is out of range is an answer here (`Misfit`); the callers make it refusal 8.
+#![tactic(auto)]
+
 mod ask;
 
 pub use ask::{Asked, Examined, ask_bwd, ask_fwd, examine};

@@ -7,6 +7,8 @@
 // 64 words and 3 * (512 + 511) = 3,069 node numbers, which is what the smallest block size needs.
 //
 // No function here refuses anything. The calls test the words and numbers that were decoded.
+#![tactic(auto)]
+
 mod answer;
 mod bytes;
 mod limit;

@@ -6,7 +6,7 @@ use borrow.Author.Rules.{rules}
 use Rattle.bits_stretch.specs.declared.summary.Summary.{Summary}
 use Rattle.mmt_node.specs.Nodes.{node_at}
 use Rattle.walk_examine.specs.declared.ask.Examined.TheVariants.{Fit}
-use Rattle.walk_examine.proofs.Asked.{Looked, looked, fits_size, total_back}
+use Rattle.walk_examine.proofs.Asks.{Looked, looked, fits_size, total_back}
 use Rattle.bp_spec.proofs.RightmostStart.{start_none, start_misfit, start_root}
 use Rattle.bp_level.proofs.ends.root_start.Statement.{statement}
 use Rattle.bp_level.proofs.ends.root_start.Tie as tie

@@ -5,7 +5,7 @@ use native.Mathlib.Omega.{arith}
 use borrow.Author.Tests.{eq-eqb, ne_eqb}
 use Rattle.row.specs.Way.{backward}
 use Rattle.walk_climb.specs.Climbed.{Rises}
-use Rattle.walk_climb.proofs.Climbed.{rises_start, rises_on}
+use Rattle.walk_climb.proofs.Climbs.{rises_start, rises_on}
 use Rattle.walk_climb.proofs.backward.right_above.Statement.{statement}
 use Rattle.walk_climb.proofs.backward.right_above.Tie as tie
 

@@ -12,9 +12,9 @@ use Rattle.walk_spec.specs.Walk.{climb}
 use Rattle.walk_examine.specs.declared.ask.Asked.{Asked}
 use Rattle.walk_examine.specs.declared.ask.Asked.TheVariants.{Past}
 use Rattle.walk_examine.specs.Asked.{asked_of}
-use Rattle.walk_examine.proofs.Asked.{says, past_size}
+use Rattle.walk_examine.proofs.Asks.{says, past_size}
 use Rattle.walk_climb.specs.Climbed.{climbed_of}
-use Rattle.walk_climb.proofs.Climbed.{climbed_root, by_beside, climbed_asked}
+use Rattle.walk_climb.proofs.Climbs.{climbed_root, by_beside, climbed_asked}
 use Rattle.walk_climb.proofs.backward.up_bwd.Statement.{statement}
 use Rattle.walk_climb.proofs.backward.up_bwd.Tie as tie
 

@@ -8,7 +8,7 @@ use mir.Val.{to_z, of_z}
 use mir.ValLaws.{to_z-of_z}
 use Rattle.row.specs.Way.{forward}
 use Rattle.walk_spec.specs.Walk.{climb}
-use Rattle.walk_examine.proofs.Asked.{room_fits}
+use Rattle.walk_examine.proofs.Asks.{room_fits}
 use Rattle.walk_climb.specs.declared.path.Risen.{Risen}
 use Rattle.walk_climb.specs.Climbed.{climbed_of, climbed_on, Higher, Part}
 use Prim.Native.Nat.{ℕ, ◌+◌, ◌*◌, ◌<◌}

@@ -3,7 +3,7 @@
 use native.Mathlib.Omega.{arith}
 use Rattle.row.specs.Way.{forward}
 use Rattle.walk_climb.specs.Climbed.{Rises}
-use Rattle.walk_climb.proofs.Climbed.{rises_start, rises_on}
+use Rattle.walk_climb.proofs.Climbs.{rises_start, rises_on}
 use Rattle.walk_climb.proofs.forward.left_above.Statement.{statement}
 use Rattle.walk_climb.proofs.forward.left_above.Tie as tie
 

@@ -11,10 +11,10 @@ use Rattle.mmt_layout.specs.Layout.{inner, count}
 use Rattle.mmt_node.proofs.Covered.{top}
 use Rattle.walk_spec.specs.Walk.{climb, descend}
 use Rattle.walk_examine.specs.Asked.{Room}
-use Rattle.walk_examine.proofs.Asked.{room_fits}
+use Rattle.walk_examine.proofs.Asks.{room_fits}
 use Rattle.walk_climb.specs.declared.path.Climbed.TheVariants.{Turn}
 use Rattle.walk_climb.specs.Climbed.{climbed_of}
-use Rattle.walk_climb.proofs.Climbed.{Turned}
+use Rattle.walk_climb.proofs.Climbs.{Turned}
 use Rattle.walk_descend.specs.Descended.{descended_of}
 use Rattle.walk_code.proofs.Answers.{Laid, laid_out, start_room, turn_there, leaf_there, beyond_out, beyond_misfit, beyond_lost, beyond_leaf}
 use Rattle.walk_code.proofs.forward.beyond_fwd.Statement.{statement}

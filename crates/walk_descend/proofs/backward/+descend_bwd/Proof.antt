@@ -8,11 +8,11 @@ use mir.Val.{to_z, of_z}
 use mir.ValLaws.{to_z-of_z}
 use Rattle.row.specs.Way.{backward}
 use Rattle.walk_spec.specs.Walk.{descend}
-use Rattle.walk_examine.proofs.Asked.{room_fits}
+use Rattle.walk_examine.proofs.Asks.{room_fits}
 use Rattle.walk_descend.specs.declared.path.Descended.{Descended}
 use Rattle.walk_descend.specs.declared.path.Descended.TheVariants.{Leaf}
 use Rattle.walk_descend.specs.Descended.{descended_of}
-use Rattle.walk_descend.proofs.Descended.{descended_leaf, on_down, descended_then, Fallen, fallen}
+use Rattle.walk_descend.proofs.Descends.{descended_leaf, on_down, descended_then, Fallen, fallen}
 use Prim.Native.Nat.{ℕ, ◌-◌, ◌<◌, min}
 use borrow.Fn.Kinds.{In}
 use borrow.Fn.PlainCycle.{Measures, is, falls, and}

@@ -11,9 +11,9 @@ use Rattle.row.specs.Way.{backward}
 use Rattle.walk_spec.specs.Walk.{descend}
 use Rattle.walk_examine.specs.declared.ask.Asked.{Asked}
 use Rattle.walk_examine.specs.Asked.{asked_of}
-use Rattle.walk_examine.proofs.Asked.{says, past_size}
+use Rattle.walk_examine.proofs.Asks.{says, past_size}
 use Rattle.walk_descend.specs.Descended.{descended_of}
-use Rattle.walk_descend.proofs.Descended.{by_second, down_first, down_second}
+use Rattle.walk_descend.proofs.Descends.{by_second, down_first, down_second}
 use Rattle.walk_descend.proofs.backward.down_bwd.Statement.{statement}
 use Rattle.walk_descend.proofs.backward.down_bwd.Tie as tie
 

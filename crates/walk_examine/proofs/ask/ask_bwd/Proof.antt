@@ -11,7 +11,7 @@ use Rattle.bits_stretch.specs.declared.summary.Summary.{Summary}
 use Rattle.bits_stretch.specs.Summary.{holds_back}
 use Rattle.mmt_node.specs.Nodes.{node_at}
 use Rattle.walk_examine.specs.declared.ask.Examined.TheVariants.{Fit}
-use Rattle.walk_examine.proofs.Asked.{Looked, looked, total_back, passed_fits, asked_absent, asked_misfit, asked_here, asked_past}
+use Rattle.walk_examine.proofs.Asks.{Looked, looked, total_back, passed_fits, asked_absent, asked_misfit, asked_here, asked_past}
 use Rattle.walk_examine.proofs.ask.ask_bwd.Statement.{statement}
 use Rattle.walk_examine.proofs.ask.ask_bwd.Tie as tie
 

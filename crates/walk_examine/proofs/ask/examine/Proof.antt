@@ -6,7 +6,7 @@ use borrow.Author.Rules.{rules}
 use mir.Syntax.{w64}
 use mir.Val.{SFits}
 use Rattle.walk_examine.specs.Asked.{examined_of}
-use Rattle.walk_examine.proofs.Asked.{told_no, told_yes, examined_total, examined_least, examined_greatest, examined_fit}
+use Rattle.walk_examine.proofs.Asks.{told_no, told_yes, examined_total, examined_least, examined_greatest, examined_fit}
 use Rattle.walk_examine.proofs.ask.examine.Statement.{statement}
 use Rattle.walk_examine.proofs.ask.examine.Tie as tie
 

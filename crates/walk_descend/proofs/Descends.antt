@@ -31,7 +31,7 @@ use Rattle.walk_spec.proofs.Steps.{descend_leaf}
 use Rattle.walk_examine.specs.declared.ask.Asked.{Asked}
 use Rattle.walk_examine.specs.declared.ask.Asked.TheVariants.{Here, Past, Absent, Misfit as MisfitAsked}
 use Rattle.walk_examine.specs.Asked.{asked_of, Room}
-use Rattle.walk_examine.proofs.Asked.{passed_size}
+use Rattle.walk_examine.proofs.Asks.{passed_size}
 use Rattle.walk_descend.specs.declared.path.Descended.{Descended}
 use Rattle.walk_descend.specs.declared.path.Descended.TheVariants.{Leaf, Lost}
 use Rattle.walk_descend.specs.Descended.{descended_of}

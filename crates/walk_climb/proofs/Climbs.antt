@@ -25,7 +25,7 @@ use Rattle.walk_spec.proofs.Steps.{climb_root, climb_up, climb_beside}
 use Rattle.walk_examine.specs.declared.ask.Asked.{Asked}
 use Rattle.walk_examine.specs.declared.ask.Asked.TheVariants.{Here, Past, Absent, Misfit as MisfitAsked}
 use Rattle.walk_examine.specs.Asked.{asked_of, Room}
-use Rattle.walk_examine.proofs.Asked.{passed_size}
+use Rattle.walk_examine.proofs.Asks.{passed_size}
 use Rattle.walk_climb.specs.declared.path.Climbed.{Climbed}
 use Rattle.walk_climb.specs.declared.path.Climbed.TheVariants.{Turn, Out, Misfit as MisfitClimbed}
 use Rattle.walk_climb.specs.Climbed.{climbed_of, Rises}
