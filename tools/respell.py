@@ -122,8 +122,8 @@ def turn_line(line, turned, fields, path, law):
         if word not in turned:
             return word
         behind = match.start() > 0 and code[match.start() - 1] == "."
-        if behind and word not in fields:
-            # behind a dot stands a module's item or a field that Rattle makes
+        if behind and word not in fields and not re.search("[a-z][A-Z]", word):
+            # behind a dot stands a field that Rattle makes, but for a module's item in the older spelling
             return word
         if path.endswith(".rt") and "-" in word and not behind:
             return word

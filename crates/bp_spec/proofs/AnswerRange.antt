@@ -107,7 +107,7 @@ module _ (ws : List ℕ) (n : ℕ) (s : List ℤ) (B : ℕ) where
   ancestor_may : (a d : ℕ) → May 2 held (ancestor_answer ws n s B a d)
   unfolding ancestor_answer
   ancestor_may a d =
-      held_may 2 (both_gate ws n a d) (family.isAncestor ws n walks a d)
+      held_may 2 (both_gate ws n a d) (family.is_ancestor ws n walks a d)
       (refused_then held (handle_gate ws n a) (handle_gate ws n d) (handle_refused a) (handle_refused d))
       (λ g. may_ancestor (8 ∷ []) ws n walks fwd_may bwd_may a d)
 
@@ -126,17 +126,17 @@ module _ (ws : List ℕ) (n : ℕ) (s : List ℤ) (B : ℕ) where
   answers_may (Enclose i) = search_may backward i (outward ws n i)
   answers_may Root = may_through (2 ∷ 3 ∷ []) n row (handle.root n) (refused_row (2 ∷ 3 ∷ []) (length ws) n one two) (λ g. may_root (2 ∷ 3 ∷ []) ws n)
   answers_may (Parent v) = node_may family.parent v (λ h. may_parent (8 ∷ []) ws n walks fwd_may bwd_may v)
-  answers_may (FirstChild v) = bare_may n handle.firstChild v (may_first_child bare ws n v)
-  answers_may (LastChild v) = node_may sibling.lastChild v (λ h. may_last_child (8 ∷ []) ws n walks fwd_may bwd_may v)
-  answers_may (NextSibling v) = node_may sibling.nextSibling v (λ h. may_next_sibling (8 ∷ []) ws n walks fwd_may bwd_may v)
-  answers_may (PreviousSibling v) = node_may sibling.previousSibling v (λ h. may_previous_sibling (8 ∷ []) ws n walks fwd_may bwd_may v)
-  answers_may (IsLeaf v) = bare_may 2 handle.isLeaf v (may_leaf bare ws n v)
+  answers_may (FirstChild v) = bare_may n handle.first_child v (may_first_child bare ws n v)
+  answers_may (LastChild v) = node_may sibling.last_child v (λ h. may_last_child (8 ∷ []) ws n walks fwd_may bwd_may v)
+  answers_may (NextSibling v) = node_may sibling.next_sibling v (λ h. may_next_sibling (8 ∷ []) ws n walks fwd_may bwd_may v)
+  answers_may (PreviousSibling v) = node_may sibling.previous_sibling v (λ h. may_previous_sibling (8 ∷ []) ws n walks fwd_may bwd_may v)
+  answers_may (IsLeaf v) = bare_may 2 handle.is_leaf v (may_leaf bare ws n v)
   answers_may (IsAncestor a d) = ancestor_may a d
   answers_may (LevelAncestor v k) =
-      node_may (level.levelAncestor k) v (λ h. may_level_ancestor (8 ∷ []) ws n walks fwd_may bwd_may k v (opens_low ws n v h))
-  answers_may (LevelNext v) = node_may level.levelNext v (λ h. may_next (8 ∷ []) ws n walks fwd_may bwd_may v)
-  answers_may (LevelPrev v) = node_may level.levelPrev v (λ h. may_prev (8 ∷ []) ws n walks fwd_may bwd_may v)
-  answers_may (LevelLeftmost k) = free_may (ends.levelLeftmost ws n walks k) (may_leftmost (8 ∷ []) ws n walks fwd_may bwd_may k)
+      node_may (level.level_ancestor k) v (λ h. may_level_ancestor (8 ∷ []) ws n walks fwd_may bwd_may k v (opens_low ws n v h))
+  answers_may (LevelNext v) = node_may level.level_next v (λ h. may_next (8 ∷ []) ws n walks fwd_may bwd_may v)
+  answers_may (LevelPrev v) = node_may level.level_prev v (λ h. may_prev (8 ∷ []) ws n walks fwd_may bwd_may v)
+  answers_may (LevelLeftmost k) = free_may (ends.level_leftmost ws n walks k) (may_leftmost (8 ∷ []) ws n walks fwd_may bwd_may k)
   answers_may (LevelRightmost k) =
-      free_may (ends.levelRightmost ws n walks (ends.rootStart n s) k)
-      (may_rightmost (8 ∷ []) ws n walks fwd_may bwd_may n (ends.rootStart n s) (root_may n s) k)
+      free_may (ends.level_rightmost ws n walks (ends.root_start n s) k)
+      (may_rightmost (8 ∷ []) ws n walks fwd_may bwd_may n (ends.root_start n s) (root_may n s) k)

@@ -63,7 +63,7 @@ module _ (ws : List ℕ) (n : ℕ) where
   both_may : (a d : ℕ) → May 2 bad (ancestor_defined ws n a d)
   unfolding ancestor_defined
   both_may a d =
-      may_through bad 2 (both_gate ws n a d) (family.isAncestor ws n (defined ws n) a d)
+      may_through bad 2 (both_gate ws n a d) (family.is_ancestor ws n (defined ws n) a d)
       (refused_then bad (handle_gate ws n a) (handle_gate ws n d)
       (refused_handle bad ws n a (Memᴰ.head refl)) (refused_handle bad ws n d (Memᴰ.head refl)))
       (λ g. may_ancestor bad ws n (defined ws n) ahead_may behind_may a d)
@@ -77,18 +77,18 @@ module _ (ws : List ℕ) (n : ℕ) where
   defined_may (Enclose i) = behind_may i (outward ws n i)
   defined_may Root = may_root bad ws n
   defined_may (Parent v) = node_may family.parent v (λ h. may_parent bad ws n (defined ws n) ahead_may behind_may v)
-  defined_may (FirstChild v) = held_may n v (handle.firstChild ws n v) (λ h. may_first_child bad ws n v)
-  defined_may (LastChild v) = node_may sibling.lastChild v (λ h. may_last_child bad ws n (defined ws n) ahead_may behind_may v)
-  defined_may (NextSibling v) = node_may sibling.nextSibling v (λ h. may_next_sibling bad ws n (defined ws n) ahead_may behind_may v)
-  defined_may (PreviousSibling v) = node_may sibling.previousSibling v (λ h. may_previous_sibling bad ws n (defined ws n) ahead_may behind_may v)
-  defined_may (IsLeaf v) = held_may 2 v (handle.isLeaf ws n v) (λ h. may_leaf bad ws n v)
+  defined_may (FirstChild v) = held_may n v (handle.first_child ws n v) (λ h. may_first_child bad ws n v)
+  defined_may (LastChild v) = node_may sibling.last_child v (λ h. may_last_child bad ws n (defined ws n) ahead_may behind_may v)
+  defined_may (NextSibling v) = node_may sibling.next_sibling v (λ h. may_next_sibling bad ws n (defined ws n) ahead_may behind_may v)
+  defined_may (PreviousSibling v) = node_may sibling.previous_sibling v (λ h. may_previous_sibling bad ws n (defined ws n) ahead_may behind_may v)
+  defined_may (IsLeaf v) = held_may 2 v (handle.is_leaf ws n v) (λ h. may_leaf bad ws n v)
   defined_may (IsAncestor a d) = both_may a d
   defined_may (LevelAncestor v k) =
-      node_may (level.levelAncestor k) v (λ h. may_level_ancestor bad ws n (defined ws n) ahead_may behind_may k v (opens_low ws n v h))
-  defined_may (LevelNext v) = node_may level.levelNext v (λ h. may_next bad ws n (defined ws n) ahead_may behind_may v)
-  defined_may (LevelPrev v) = node_may level.levelPrev v (λ h. may_prev bad ws n (defined ws n) ahead_may behind_may v)
+      node_may (level.level_ancestor k) v (λ h. may_level_ancestor bad ws n (defined ws n) ahead_may behind_may k v (opens_low ws n v h))
+  defined_may (LevelNext v) = node_may level.level_next v (λ h. may_next bad ws n (defined ws n) ahead_may behind_may v)
+  defined_may (LevelPrev v) = node_may level.level_prev v (λ h. may_prev bad ws n (defined ws n) ahead_may behind_may v)
   defined_may (LevelLeftmost k) = may_leftmost bad ws n (defined ws n) ahead_may behind_may k
-  defined_may (LevelRightmost k) = may_rightmost bad ws n (defined ws n) ahead_may behind_may _ (ends.lastStart ws n) (last_may ws n bad) k
+  defined_may (LevelRightmost k) = may_rightmost bad ws n (defined ws n) ahead_may behind_may _ (ends.last_start ws n) (last_may ws n bad) k
 
   pub only_five : (q : Question) (k : ℕ) → definition ws n q ≡ refused k → k ≡ 5
   only_five q k e = Memᴰ.eq_of_singleton (rw e at (defined_may q))

@@ -132,28 +132,28 @@ module _ (ws vs : List ℕ) (n : ℕ) (s t : List ℤ) (B : ℕ) (same : NodesAl
       (λ o. let b = same.bits o in (gate_same ws vs n b v, over o (λ us S. c us n S v) (λ S. f b S v)))
 
   both_same : (a d : ℕ) → ancestor_answer ws n s B a d ≡ ancestor_answer vs n t B a d
-  unfolding ancestor_answer family.isAncestor
+  unfolding ancestor_answer family.is_ancestor
   both_same a d =
       tested (both_gate ws n a d) (both_gate vs n a d)
-      (family.isAncestor ws n (walked ws n s B) a d) (family.isAncestor vs n (walked vs n t B) a d)
+      (family.is_ancestor ws n (walked ws n s B) a d) (family.is_ancestor vs n (walked vs n t B) a d)
       (λ o. (
         λ i. and_then (gate_same ws vs n (same.bits o) a i) (gate_same ws vs n (same.bits o) d i),
-        over o (λ us S. family.isAncestor us n S a d) (λ S. refl),
+        over o (λ us S. family.is_ancestor us n S a d) (λ S. refl),
       ))
 
-  leftmost_same : (k : ℕ) → level_answer ends.levelLeftmost ws n s B k ≡ level_answer ends.levelLeftmost vs n t B k
-  unfolding level_answer ends.levelLeftmost
+  leftmost_same : (k : ℕ) → level_answer ends.level_leftmost ws n s B k ≡ level_answer ends.level_leftmost vs n t B k
+  unfolding level_answer ends.level_leftmost
   leftmost_same k =
-      passed (ends.levelLeftmost ws n (walked ws n s B) k) (ends.levelLeftmost vs n (walked vs n t B) k)
-      (λ o. over o (λ us S. ends.levelLeftmost us n S k) (λ S. refl))
+      passed (ends.level_leftmost ws n (walked ws n s B) k) (ends.level_leftmost vs n (walked vs n t B) k)
+      (λ o. over o (λ us S. ends.level_leftmost us n S k) (λ S. refl))
 
   rightmost_same : (k : ℕ) → rightmost_answer ws n s B k ≡ rightmost_answer vs n t B k
-  unfolding rightmost_answer ends.levelRightmost
+  unfolding rightmost_answer ends.level_rightmost
   rightmost_same k =
-      passed (ends.levelRightmost ws n (walked ws n s B) (root_start n s) k) (ends.levelRightmost vs n (walked vs n t B) (root_start n t) k)
+      passed (ends.level_rightmost ws n (walked ws n s B) (root_start n s) k) (ends.level_rightmost vs n (walked vs n t B) (root_start n t) k)
       (λ o. let l = (gate_fine (length ws) n (length s) B o).eight in
-      over o (λ us S. ends.levelRightmost us n S (root_start n s) k) (λ S. refl)
-      ∙ ap (λ (a : Answer). ends.levelRightmost vs n (walked vs n t B) a k) (root_same n s t B (omega arith) (same.nodes o)))
+      over o (λ us S. ends.level_rightmost us n S (root_start n s) k) (λ S. refl)
+      ∙ ap (λ (a : Answer). ends.level_rightmost vs n (walked vs n t B) a k) (root_same n s t B (omega arith) (same.nodes o)))
 
   pub test_same : as_built_answer ws n s B ≡ as_built_answer vs n t B
   unfolding as_built_answer
@@ -197,7 +197,7 @@ module _ (ws vs : List ℕ) (n : ℕ) (s t : List ℤ) (B : ℕ) (same : NodesAl
 -- ---- each call
 module _ (ws vs : List ℕ) (n : ℕ) (s t : List ℤ) (B : ℕ) (row : RowAlike ws vs n) where
   pub answers_same : (q : Question) → ((kind n q).nodes ≡ true → NodesAlike ws vs n s t B) → promised ws n s B q ≡ promised vs n t B q
-  unfolding level.levelAncestor level.levelNext level.levelPrev
+  unfolding level.level_ancestor level.level_next level.level_prev
   answers_same (FwdSearch i r) h = search_same ws vs n s t B (h refl) forward i r r (λ b. refl)
   answers_same (BwdSearch i r) h = search_same ws vs n s t B (h refl) backward i r r (λ b. refl)
   answers_same (Close i) h = search_same ws vs n s t B (h refl) forward i (negsuc 0) (negsuc 0) (λ b. refl)
@@ -206,14 +206,14 @@ module _ (ws vs : List ℕ) (n : ℕ) (s t : List ℤ) (B : ℕ) (row : RowAlike
       search_same ws vs n s t B (h refl) backward i (outward ws n i) (outward vs n i) (λ b. outward_same ws vs n b i)
   answers_same Root h = ap (λ (g : Gate). through g (handle.root n)) row.gate
   answers_same (Parent v) h = node_same ws vs n s t B (h refl) family.parent (parent_same ws vs n) v
-  answers_same (FirstChild v) h = handle_same ws vs n row handle.firstChild (first_child_same ws vs n) v
-  answers_same (LastChild v) h = node_same ws vs n s t B (h refl) sibling.lastChild (last_child_same ws vs n) v
-  answers_same (NextSibling v) h = node_same ws vs n s t B (h refl) sibling.nextSibling (next_sibling_same ws vs n) v
-  answers_same (PreviousSibling v) h = node_same ws vs n s t B (h refl) sibling.previousSibling (previous_sibling_same ws vs n) v
-  answers_same (IsLeaf v) h = handle_same ws vs n row handle.isLeaf (is_leaf_same ws vs n) v
+  answers_same (FirstChild v) h = handle_same ws vs n row handle.first_child (first_child_same ws vs n) v
+  answers_same (LastChild v) h = node_same ws vs n s t B (h refl) sibling.last_child (last_child_same ws vs n) v
+  answers_same (NextSibling v) h = node_same ws vs n s t B (h refl) sibling.next_sibling (next_sibling_same ws vs n) v
+  answers_same (PreviousSibling v) h = node_same ws vs n s t B (h refl) sibling.previous_sibling (previous_sibling_same ws vs n) v
+  answers_same (IsLeaf v) h = handle_same ws vs n row handle.is_leaf (is_leaf_same ws vs n) v
   answers_same (IsAncestor a d) h = both_same ws vs n s t B (h refl) a d
-  answers_same (LevelAncestor v k) h = node_same ws vs n s t B (h refl) (level.levelAncestor k) (λ b S u. refl) v
-  answers_same (LevelNext v) h = node_same ws vs n s t B (h refl) level.levelNext (λ b S u. refl) v
-  answers_same (LevelPrev v) h = node_same ws vs n s t B (h refl) level.levelPrev (λ b S u. refl) v
+  answers_same (LevelAncestor v k) h = node_same ws vs n s t B (h refl) (level.level_ancestor k) (λ b S u. refl) v
+  answers_same (LevelNext v) h = node_same ws vs n s t B (h refl) level.level_next (λ b S u. refl) v
+  answers_same (LevelPrev v) h = node_same ws vs n s t B (h refl) level.level_prev (λ b S u. refl) v
   answers_same (LevelLeftmost k) h = leftmost_same ws vs n s t B (h refl) k
   answers_same (LevelRightmost k) h = rightmost_same ws vs n s t B (h refl) k

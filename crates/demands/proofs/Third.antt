@@ -71,9 +71,9 @@ module _ (ws : List ℕ) (n : ℕ) where
     unfolding rightmost_defined
     tours_defined = record {
       level_rises = λ k. rises (at_depth ws n (pos k)) ask LevelNext n (LevelLeftmost k) (is (LevelLeftmost k) ∙ leftmost ws n t k)
-          (λ v h. by (LevelNext v) level.levelNext v refl (stands ws n (pos k) v h).open_is ∙ level_next_lem ws n t (pos k) v h);
+          (λ v h. by (LevelNext v) level.level_next v refl (stands ws n (pos k) v h).open_is ∙ level_next_lem ws n t (pos k) v h);
       level_falls = λ l k. falls (at_depth ws n (pos k)) ask LevelPrev n (LevelRightmost k) (is (LevelRightmost k) ∙ rightmost ws n t k l)
-          (λ v h. by (LevelPrev v) level.levelPrev v refl (stands ws n (pos k) v h).open_is ∙ level_prev_lem ws n t (pos k) v h);
+          (λ v h. by (LevelPrev v) level.level_prev v refl (stands ws n (pos k) v h).open_is ∙ level_prev_lem ws n t (pos k) v h);
       too_deep = λ k f. (
         none_those (at_depth ws n (pos k)) n 0 (λ v a b. shallow k f v),
         is (LevelLeftmost k) ∙ leftmost ws n t k ∙ next_none (at_depth ws n (pos k)) n 0 (λ v a b. shallow k f v),
@@ -81,12 +81,12 @@ module _ (ws : List ℕ) (n : ℕ) where
       children_rise = λ v o.
           let (e, d) = closing ws n t v o in
           rises (child_of ws n v) ask NextSibling n (FirstChild v)
-          (is (FirstChild v) ∙ passed v (handle.firstChild ws n v) o ∙ first_child_lem ws n t v e o d)
-          (λ w h. by (NextSibling w) sibling.nextSibling w refl (kid ws n t v e o d w h).open_is ∙ next_sibling_lem ws n t v e o d w h);
+          (is (FirstChild v) ∙ passed v (handle.first_child ws n v) o ∙ first_child_lem ws n t v e o d)
+          (λ w h. by (NextSibling w) sibling.next_sibling w refl (kid ws n t v e o d w h).open_is ∙ next_sibling_lem ws n t v e o d w h);
       children_fall = λ v o.
           let (e, d) = closing ws n t v o in
-          falls (child_of ws n v) ask PreviousSibling n (LastChild v) (by (LastChild v) sibling.lastChild v refl o ∙ last_child_lem ws n t v e o d)
-          (λ w h. by (PreviousSibling w) sibling.previousSibling w refl (kid ws n t v e o d w h).open_is ∙ previous_sibling_lem ws n t v e o d w h);
+          falls (child_of ws n v) ask PreviousSibling n (LastChild v) (by (LastChild v) sibling.last_child v refl o ∙ last_child_lem ws n t v e o d)
+          (λ w h. by (PreviousSibling w) sibling.previous_sibling w refl (kid ws n t v e o d w h).open_is ∙ previous_sibling_lem ws n t v e o d w h);
       one_parent = λ w o h.
           let (u, p) = parent_of ws n t w o h in
           let l = opens_low ws n w o in (

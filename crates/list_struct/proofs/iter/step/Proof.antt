@@ -111,7 +111,7 @@ module _ {M : Type 1} {𝓤 : Ura M} (𝓛 : Logic 𝓤) (mem : Memory → SProp
 
   -- The specification answer that the listing is to hold next.
   abbrev answer : Answer
-  answer = spec.heldAfter d.rising d.words.now d.n d.nodes.now d.block (paper_found d.held)
+  answer = spec.held_after d.rising d.words.now d.n d.nodes.now d.block (paper_found d.held)
 
   -- The listing that holds r, and the result with it.
   abbrev d' : Found → Children
