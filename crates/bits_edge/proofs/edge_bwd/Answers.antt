@@ -39,5 +39,5 @@ overflow_add-result c = omega (arith, hit_within backward _ _ _ _ (returns-in-Hi
 
 pub returns-in-Left : goal.returns-in-Left
 returns-in-Left c =
-    let f : SFits w64 c.in-Left.q = record { sfits = c.known_told-in-Left-1.given.0.1 } in
+    let f : SFits w64 c.in-Left.q = grind (arith) in
     rw (to_z-of_z w64 _ f) (rw c.in-Left.is at (read-in-Left c))

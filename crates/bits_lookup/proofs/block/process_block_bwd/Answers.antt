@@ -4,7 +4,7 @@ use mathlib.Core.Path.{◌≡◌, refl, sym, ap, ◌∙◌}
 use native.Mathlib.Omega.{arith}
 use lib.IntN.{◌+ℤ◌}
 use mir.Syntax.{w64}
-use mir.Val.{to_z, of_z}
+use mir.Val.{SFits, to_z, of_z}
 use mir.ValLaws.{to_z-of_z}
 use Rattle.row.specs.Bits.{digit}
 use Rattle.bits_stretch.specs.declared.summary.Summary.{Summary}
@@ -30,7 +30,9 @@ returns c =
     let s = m in
     let x = m.byte_summary-x in
     let f = digit s.args.b in
+    let o : SFits w64 (to_z w64 (of_z w64 s.args.r) +ℤ to_z w64 (of_z w64 x.result.total)) =
+    rw (to_z-of_z w64 _ s.ranges.r, total_back f _ x.ensures) (more_fits f s.args.r s.requires.room) in
     let g : to_z w64 (of_z w64 (to_z w64 (of_z w64 s.args.r) +ℤ to_z w64 (of_z w64 x.result.total))) ≡ s.args.r +ℤ (summary_of f 0 8).total =
-    to_z-of_z w64 _ (overflow_add-s c) ∙ rw (to_z-of_z w64 _ s.ranges.r, total_back f _ x.ensures) refl in
+    to_z-of_z w64 _ o ∙ rw (to_z-of_z w64 _ s.ranges.r, total_back f _ x.ensures) refl in
     let h = sym (ap (λ (y : Summary). holds_back y (s.args.r +ℤ (summary_of f 0 8).total)) x.ensures) ∙ (rw g at (sym t.holds_back.ensures ∙ c.if-holds_back.false)) in
     rw g (sym (skip_backward f 8 0 (omega arith) s.args.r h))

@@ -18,7 +18,7 @@ loop-k-init c = (reading_start _ _ _ _ _, (omega arith, refl))
 
 -- One turn of the loop reads byte k - 1.
 piece-in-Hit : (c : goal.In-Hit) → (let s = c.args in let l = c.loop-k in
-    Piece backward (digit s.word) (8 * (l.k - s.from)) (8 * s.from) (to_z w64 l.q) (8 * (l.k - 1)) c.process_block_bwd.result (8 * ((l.k - 1) - s.from)) (8 * s.from))
+    Piece backward (digit s.word) (8 * (l.k - s.from)) (8 * s.from) (to_z w64 l.q-bits) (8 * (l.k - 1)) c.process_block_bwd.result (8 * ((l.k - 1) - s.from)) (8 * s.from))
 piece-in-Hit c =
     let l = c.loop-k in
     let b = high_byte _ l.k (omega arith) (omega arith) l.invariant.1.1 c.byte_of.ensures in
@@ -31,7 +31,7 @@ piece-in-Hit c =
 
 -- One turn of the loop reads byte k - 1.
 piece-in-Left : (c : goal.In-Left) → (let s = c.args in let l = c.loop-k in
-    Piece backward (digit s.word) (8 * (l.k - s.from)) (8 * s.from) (to_z w64 l.q) (8 * (l.k - 1)) c.process_block_bwd.result (8 * ((l.k - 1) - s.from)) (8 * s.from))
+    Piece backward (digit s.word) (8 * (l.k - s.from)) (8 * s.from) (to_z w64 l.q-bits) (8 * (l.k - 1)) c.process_block_bwd.result (8 * ((l.k - 1) - s.from)) (8 * s.from))
 piece-in-Left c =
     let l = c.loop-k in
     let b = high_byte _ l.k (omega arith) (omega arith) l.invariant.1.1 c.byte_of.ensures in

@@ -24,7 +24,7 @@ loop-k-init c = (reading_start _ _ _ _ _, omega arith)
 
 -- One turn of the loop reads bytes of word (k - 1) / 8.
 piece-in-Hit : (c : goal.In-Hit) → (let e = c.later-start.result in let l = c in let s = l.args in
-    Piece backward (bit_at s.words.now) (8 * (l.loop-k.k - s.from)) (8 * s.from) l.loop-k.q (64 * ((l.loop-k.k - 1) / 8)) c.word_bwd.result (8 * (e - s.from)) (8 * s.from))
+    Piece backward (bit_at s.words.now) (8 * (l.loop-k.k - s.from)) (8 * s.from) (to_z w64 l.loop-k.q-bits) (64 * ((l.loop-k.k - 1) / 8)) c.word_bwd.result (8 * (e - s.from)) (8 * s.from))
 piece-in-Hit c =
     let t = c in
     let e = c.later-start.ensures in
@@ -37,7 +37,7 @@ piece-in-Hit c =
 
 -- One turn of the loop reads bytes of word (k - 1) / 8.
 piece-in-Left : (c : goal.In-Left) → (let e = c.later-start.result in let l = c in let s = l.args in
-    Piece backward (bit_at s.words.now) (8 * (l.loop-k.k - s.from)) (8 * s.from) l.loop-k.q (64 * ((l.loop-k.k - 1) / 8)) c.word_bwd.result (8 * (e - s.from)) (8 * s.from))
+    Piece backward (bit_at s.words.now) (8 * (l.loop-k.k - s.from)) (8 * s.from) (to_z w64 l.loop-k.q-bits) (64 * ((l.loop-k.k - 1) / 8)) c.word_bwd.result (8 * (e - s.from)) (8 * s.from))
 piece-in-Left c =
     let t = c in
     let e = c.later-start.ensures in

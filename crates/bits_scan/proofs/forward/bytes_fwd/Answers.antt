@@ -18,7 +18,7 @@ loop-k-init c = (reading_start _ _ _ _ _, refl)
 
 -- One turn of the loop reads byte k.
 piece-in-Hit : (c : goal.In-Hit) → (let s = c.args in let l = c.loop-k in
-    Piece forward (digit s.word) (8 * (s.to - l.k)) (8 * l.k) (to_z w64 l.q) (8 * l.k) c.process_block_fwd.result (8 * (s.to - (l.k + 1))) (8 * (l.k + 1)))
+    Piece forward (digit s.word) (8 * (s.to - l.k)) (8 * l.k) (to_z w64 l.q-bits) (8 * l.k) c.process_block_fwd.result (8 * (s.to - (l.k + 1))) (8 * (l.k + 1)))
 piece-in-Hit c =
     let l = c.loop-k in
     record {
@@ -30,7 +30,7 @@ piece-in-Hit c =
 
 -- One turn of the loop reads byte k.
 piece-in-Left : (c : goal.In-Left) → (let s = c.args in let l = c.loop-k in
-    Piece forward (digit s.word) (8 * (s.to - l.k)) (8 * l.k) (to_z w64 l.q) (8 * l.k) c.process_block_fwd.result (8 * (s.to - (l.k + 1))) (8 * (l.k + 1)))
+    Piece forward (digit s.word) (8 * (s.to - l.k)) (8 * l.k) (to_z w64 l.q-bits) (8 * l.k) c.process_block_fwd.result (8 * (s.to - (l.k + 1))) (8 * (l.k + 1)))
 piece-in-Left c =
     let l = c.loop-k in
     record {

@@ -24,7 +24,7 @@ loop-k-init c = reading_start _ _ _ _ _
 
 -- One turn of the loop reads bytes of word k / 8.
 piece-in-Hit : (c : goal.In-Hit) → (let e = c.earlier-end.result in let l = c in let s = l.args in
-    Piece forward (bit_at s.words.now) (8 * (s.to - l.loop-k.k)) (8 * l.loop-k.k) l.loop-k.q (64 * (l.loop-k.k / 8)) c.word_fwd.result (8 * (s.to - e)) (8 * e))
+    Piece forward (bit_at s.words.now) (8 * (s.to - l.loop-k.k)) (8 * l.loop-k.k) (to_z w64 l.loop-k.q-bits) (64 * (l.loop-k.k / 8)) c.word_fwd.result (8 * (s.to - e)) (8 * e))
 piece-in-Hit c =
     let t = c in
     let e = c.earlier-end.ensures in
@@ -37,7 +37,7 @@ piece-in-Hit c =
 
 -- One turn of the loop reads bytes of word k / 8.
 piece-in-Left : (c : goal.In-Left) → (let e = c.earlier-end.result in let l = c in let s = l.args in
-    Piece forward (bit_at s.words.now) (8 * (s.to - l.loop-k.k)) (8 * l.loop-k.k) l.loop-k.q (64 * (l.loop-k.k / 8)) c.word_fwd.result (8 * (s.to - e)) (8 * e))
+    Piece forward (bit_at s.words.now) (8 * (s.to - l.loop-k.k)) (8 * l.loop-k.k) (to_z w64 l.loop-k.q-bits) (64 * (l.loop-k.k / 8)) c.word_fwd.result (8 * (s.to - e)) (8 * e))
 piece-in-Left c =
     let t = c in
     let e = c.earlier-end.ensures in

@@ -16,16 +16,16 @@ pub loop-j-init : goal.loop-j-init
 loop-j-init c = record { same = refl; room = rw (to_z-of_z w64 _ c.ranges.r) (omega arith) }
 
 turn-after-sign_of-q : (c : goal.After-sign_of-q) → (let s = c.args in let l = c.loop-j in
-    Turn forward (digit s.word) (s.to - l.j) l.j (to_z w64 l.q) l.j (s.to - (l.j + 1)) (l.j + 1) (to_z w64 l.q -ℤ to_z w64 (of_z w64 c.sign_of-q.result)))
-turn-after-sign_of-q c = record { some = omega arith; here = refl; next = omega arith; left = ap (λ (s : ℤ). c.loop-j.q -ℤ s) (sign_back _ c.sign_of-q.ensures) }
+    Turn forward (digit s.word) (s.to - l.j) l.j (to_z w64 l.q-bits) l.j (s.to - (l.j + 1)) (l.j + 1) ((to_z w64 l.q-bits) -ℤ to_z w64 (of_z w64 c.sign_of-q.result)))
+turn-after-sign_of-q c = record { some = omega arith; here = refl; next = omega arith; left = ap (λ (s : ℤ). (to_z w64 c.loop-j.q-bits) -ℤ s) (sign_back _ c.sign_of-q.ensures) }
 
 turn-else-q-eq0 : (c : goal.Else-q-eq0) → (let s = c.args in let l = c.loop-j in
-    Turn forward (digit s.word) (s.to - l.j) l.j (to_z w64 l.q) l.j (s.to - (l.j + 1)) (l.j + 1) (to_z w64 l.q -ℤ to_z w64 (of_z w64 c.sign_of-q.result)))
-turn-else-q-eq0 c = record { some = omega arith; here = refl; next = omega arith; left = ap (λ (s : ℤ). c.loop-j.q -ℤ s) (sign_back _ c.sign_of-q.ensures) }
+    Turn forward (digit s.word) (s.to - l.j) l.j (to_z w64 l.q-bits) l.j (s.to - (l.j + 1)) (l.j + 1) ((to_z w64 l.q-bits) -ℤ to_z w64 (of_z w64 c.sign_of-q.result)))
+turn-else-q-eq0 c = record { some = omega arith; here = refl; next = omega arith; left = ap (λ (s : ℤ). (to_z w64 c.loop-j.q-bits) -ℤ s) (sign_back _ c.sign_of-q.ensures) }
 
 turn-then-q-eq0 : (c : goal.Then-q-eq0) → (let s = c.args in let l = c.loop-j in
-    Turn forward (digit s.word) (s.to - l.j) l.j (to_z w64 l.q) l.j (s.to - (l.j + 1)) (l.j + 1) (to_z w64 l.q -ℤ to_z w64 (of_z w64 c.sign_of-q.result)))
-turn-then-q-eq0 c = record { some = omega arith; here = refl; next = omega arith; left = ap (λ (s : ℤ). c.loop-j.q -ℤ s) (sign_back _ c.sign_of-q.ensures) }
+    Turn forward (digit s.word) (s.to - l.j) l.j (to_z w64 l.q-bits) l.j (s.to - (l.j + 1)) (l.j + 1) ((to_z w64 l.q-bits) -ℤ to_z w64 (of_z w64 c.sign_of-q.result)))
+turn-then-q-eq0 c = record { some = omega arith; here = refl; next = omega arith; left = ap (λ (s : ℤ). (to_z w64 c.loop-j.q-bits) -ℤ s) (sign_back _ c.sign_of-q.ensures) }
 
 pub overflow_sub-q : goal.overflow_sub-q
 overflow_sub-q c = turn_fits c.loop-j.invariant (turn-after-sign_of-q c)

@@ -32,13 +32,13 @@ answered : (op : ℤ → ℤ → ℤ) {z a b c d : ℤ} → mag z < 2 ^ 63 → z
 answered op f e p q = to_z-of_z w64 _ (record { sfits = f }) ∙ e ∙ ap₂ op p q
 
 pub overflow_add-total : goal.overflow_add-total
-overflow_add-total c = let s = c in omega (zsum, fits s.args.x s.requires.false, fits s.args.y s.requires.right)
+overflow_add-total c = let s = c in omega (zsum, fits s.args.x s.requires.left, fits s.args.y s.requires.right)
 
 pub overflow_add-least : goal.overflow_add-least
-overflow_add-least c = let s = c in omega (zsum, fits s.args.x s.requires.false, fits s.args.y s.requires.right)
+overflow_add-least c = let s = c in omega (zsum, fits s.args.x s.requires.left, fits s.args.y s.requires.right)
 
 pub overflow_add-greatest : goal.overflow_add-greatest
-overflow_add-greatest c = let s = c in omega (zsum, fits s.args.x s.requires.false, fits s.args.y s.requires.right)
+overflow_add-greatest c = let s = c in omega (zsum, fits s.args.x s.requires.left, fits s.args.y s.requires.right)
 
 pub returns : goal.returns
 unfolding join_of
@@ -46,11 +46,11 @@ returns c =
     let s = c in
     let x = s.args.x in
     let y = s.args.y in
-    let p = s.requires.false in
+    let p = s.requires.left in
     let q = s.requires.right in
     let low = c.lesser in
     let top = c.greater in
     let t = sum_back x.total y.total p.total q.total in
-    let l = answered min_z low.type-inv low.ensures (back x.least p.least) (sum_back x.total y.least p.total q.least) in
-    let g = answered max_z top.type-inv top.ensures (back x.greatest p.greatest) (sum_back x.total y.greatest p.total q.greatest) in
+    let l = answered min_z low.type_inv low.ensures (back x.least p.least) (sum_back x.total y.least p.total q.least) in
+    let g = answered max_z top.type_inv top.ensures (back x.greatest p.greatest) (sum_back x.total y.greatest p.total q.greatest) in
     λ i. record { total = t i; least = l i; greatest = g i }

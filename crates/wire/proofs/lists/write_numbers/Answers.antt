@@ -29,7 +29,7 @@ loop-i-preserved c =
     let h : b.i < length zs = omega arith in
     let g : b.i < length (map (of_z w64) zs) = rw (length-map zs (of_z w64)) h in
     let e = ap (of_z w64) (to_z-of_z w64 z f) ∙ sym (get_d_map (of_z w64) zs b.i (pos 0) 0 h) in
-    (search rules, p.ensures ∙ over_more (map (of_z w64) zs) a.bytes.now b.bytes b.i _ g b.invariant.1 e, p.auto.0 ∙ b.invariant.2)
+    (search rules, p.ensures ∙ over_more (map (of_z w64) zs) a.bytes.now b.bytes b.i _ g b.invariant.1 e, p.auto.b ∙ b.invariant.2)
 
 pub returns : goal.returns
 returns c =

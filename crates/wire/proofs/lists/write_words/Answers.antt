@@ -20,7 +20,7 @@ loop-i-preserved c =
     let p = d.put in (
       search rules,
       p.ensures ∙ over_more a.words.now a.bytes.now b.bytes b.i _ (omega arith) b.invariant.1 refl,
-      p.auto.0 ∙ b.invariant.2,
+      p.auto.b ∙ b.invariant.2,
     )
 
 pub returns : goal.returns
