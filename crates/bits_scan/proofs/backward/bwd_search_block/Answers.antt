@@ -65,28 +65,28 @@ after-head-after-edge_bwd-in-Left-words_bwd : (c : goal.After-edge_bwd-in-Left-w
     Reading backward (bit_at s.words.now) (s.to - s.from) s.from s.r (8 * (s.to / 8) - s.from) s.from (to_z w64 (of_z w64 c.in-Left.p)))
 after-head-after-edge_bwd-in-Left-words_bwd c =
     let e = c in
-    part_on (reading_start _ _ _ _ _) (head _ _ e.if-z-a.false) (read_head-after-edge_bwd-in-Left-words_bwd e) c.in-Left.is (record { sfits = c.known_told-in-Left-1.given.0.1 })
+    part_on (reading_start _ _ _ _ _) (head _ _ e.if-z-a.false) (read_head-after-edge_bwd-in-Left-words_bwd e) c.in-Left.is (grind arith)
 
 -- What is left to scan after the first part.
 after-head-in-Hit-words_bwd : (c : goal.In-Hit-words_bwd) → (let s = c.args in
     Reading backward (bit_at s.words.now) (s.to - s.from) s.from s.r (8 * (s.to / 8) - s.from) s.from (to_z w64 (of_z w64 c.in-Left.p)))
 after-head-in-Hit-words_bwd c =
     let e = c in
-    part_on (reading_start _ _ _ _ _) (head _ _ e.if-z-a.false) (read_head-in-Hit-words_bwd e) c.in-Left.is (record { sfits = c.known_told-in-Left-1.given.0.1 })
+    part_on (reading_start _ _ _ _ _) (head _ _ e.if-z-a.false) (read_head-in-Hit-words_bwd e) c.in-Left.is (grind arith)
 
 -- What is left to scan after the first part.
 after-head-in-Left : (c : goal.In-Left) → (let s = c.args in
     Reading backward (bit_at s.words.now) (s.to - s.from) s.from s.r (8 * (s.to / 8) - s.from) s.from (to_z w64 (of_z w64 c.in-Left.p)))
 after-head-in-Left c =
     let e = c in
-    part_on (reading_start _ _ _ _ _) (head _ _ e.if-z-a.false) (read_head-in-Left e) c.in-Left.is (record { sfits = c.known_told-in-Left-1.given.0.1 })
+    part_on (reading_start _ _ _ _ _) (head _ _ e.if-z-a.false) (read_head-in-Left e) c.in-Left.is (grind arith)
 
 -- What is left to scan after the first part.
 after-head-in-Left-words_bwd : (c : goal.In-Left-words_bwd) → (let s = c.args in
     Reading backward (bit_at s.words.now) (s.to - s.from) s.from s.r (8 * (s.to / 8) - s.from) s.from (to_z w64 (of_z w64 c.in-Left.p)))
 after-head-in-Left-words_bwd c =
     let e = c in
-    part_on (reading_start _ _ _ _ _) (head _ _ e.if-z-a.false) (read_head-in-Left-words_bwd e) c.in-Left.is (record { sfits = c.known_told-in-Left-1.given.0.1 })
+    part_on (reading_start _ _ _ _ _) (head _ _ e.if-z-a.false) (read_head-in-Left-words_bwd e) c.in-Left.is (grind arith)
 
 -- What is left to scan after the whole bytes.
 after-body-after-edge_bwd-in-Left-words_bwd : (c : goal.After-edge_bwd-in-Left-words_bwd) → (let e = c in let s = e.args in
@@ -94,7 +94,7 @@ after-body-after-edge_bwd-in-Left-words_bwd : (c : goal.After-edge_bwd-in-Left-w
 after-body-after-edge_bwd-in-Left-words_bwd c =
     let e = c in
     let h = e in
-    part_on (after-head-after-edge_bwd-in-Left-words_bwd h) (body _ _ h.if-z-a.false) e.words_bwd.ensures c.in-Left-words_bwd.is (record { sfits = c.known_told-in-Left-words_bwd-1.given.0.1 })
+    part_on (after-head-after-edge_bwd-in-Left-words_bwd h) (body _ _ h.if-z-a.false) e.words_bwd.ensures c.in-Left-words_bwd.is (grind arith)
 
 -- What is left to scan after the whole bytes.
 after-body-in-Left-words_bwd : (c : goal.In-Left-words_bwd) → (let e = c in let s = e.args in
@@ -102,7 +102,7 @@ after-body-in-Left-words_bwd : (c : goal.In-Left-words_bwd) → (let e = c in le
 after-body-in-Left-words_bwd c =
     let e = c in
     let h = e in
-    part_on (after-head-in-Left-words_bwd h) (body _ _ h.if-z-a.false) e.words_bwd.ensures c.in-Left-words_bwd.is (record { sfits = c.known_told-in-Left-words_bwd-1.given.0.1 })
+    part_on (after-head-in-Left-words_bwd h) (body _ _ h.if-z-a.false) e.words_bwd.ensures c.in-Left-words_bwd.is (grind arith)
 
 pub returns-in-Hit : goal.returns-in-Hit
 returns-in-Hit c = let e = c in part_hit (reading_start _ _ _ _ _) (head _ _ e.if-z-a.false) (read_head-in-Hit e) c.in-Hit.is

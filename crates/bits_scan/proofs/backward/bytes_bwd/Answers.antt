@@ -62,7 +62,7 @@ loop-k-preserved c =
     let p = c in
     let l = p.loop-k in
     let n = high_next _ l.k (omega arith) (omega arith) l.invariant.1.1 in
-    (piece_on l.invariant.0 (piece-in-Left p) c.in-Left.is (record { sfits = c.known_told-in-Left-1.given.0.1 }), (omega arith, n))
+    (piece_on l.invariant.0 (piece-in-Left p) c.in-Left.is (grind arith), (omega arith, n))
 
 pub returns : goal.returns
 returns c = rw (to_z-of_z w64 _ c.ranges.r) at (reading_done c.loop-k.invariant.0 (omega arith))

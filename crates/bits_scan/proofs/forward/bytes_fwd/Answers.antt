@@ -59,7 +59,7 @@ pub loop-k-preserved : goal.loop-k-preserved
 loop-k-preserved c =
     let p = c in
     let l = p.loop-k in
-    (piece_on l.invariant.0 (piece-in-Left p) c.in-Left.is (record { sfits = c.known_told-in-Left-1.given.0.1 }), low_next _ l.k l.invariant.1)
+    (piece_on l.invariant.0 (piece-in-Left p) c.in-Left.is (grind arith), low_next _ l.k l.invariant.1)
 
 pub returns : goal.returns
 returns c = rw (to_z-of_z w64 _ c.ranges.r) at (reading_done c.loop-k.invariant.0 (omega arith))

@@ -65,28 +65,28 @@ after-head-after-edge_fwd-in-Left-words_fwd : (c : goal.After-edge_fwd-in-Left-w
     Reading forward (bit_at s.words.now) (s.to - s.from) s.from s.r (s.to - 8 * ((s.from + 7) / 8)) (8 * ((s.from + 7) / 8)) (to_z w64 (of_z w64 c.in-Left.p)))
 after-head-after-edge_fwd-in-Left-words_fwd c =
     let e = c in
-    part_on (reading_start _ _ _ _ _) (head _ _ e.if-z-a.false) (read_head-after-edge_fwd-in-Left-words_fwd e) c.in-Left.is (record { sfits = c.known_told-in-Left-1.given.0.1 })
+    part_on (reading_start _ _ _ _ _) (head _ _ e.if-z-a.false) (read_head-after-edge_fwd-in-Left-words_fwd e) c.in-Left.is (grind arith)
 
 -- What is left to scan after the first part.
 after-head-in-Hit-words_fwd : (c : goal.In-Hit-words_fwd) → (let s = c.args in
     Reading forward (bit_at s.words.now) (s.to - s.from) s.from s.r (s.to - 8 * ((s.from + 7) / 8)) (8 * ((s.from + 7) / 8)) (to_z w64 (of_z w64 c.in-Left.p)))
 after-head-in-Hit-words_fwd c =
     let e = c in
-    part_on (reading_start _ _ _ _ _) (head _ _ e.if-z-a.false) (read_head-in-Hit-words_fwd e) c.in-Left.is (record { sfits = c.known_told-in-Left-1.given.0.1 })
+    part_on (reading_start _ _ _ _ _) (head _ _ e.if-z-a.false) (read_head-in-Hit-words_fwd e) c.in-Left.is (grind arith)
 
 -- What is left to scan after the first part.
 after-head-in-Left : (c : goal.In-Left) → (let s = c.args in
     Reading forward (bit_at s.words.now) (s.to - s.from) s.from s.r (s.to - 8 * ((s.from + 7) / 8)) (8 * ((s.from + 7) / 8)) (to_z w64 (of_z w64 c.in-Left.p)))
 after-head-in-Left c =
     let e = c in
-    part_on (reading_start _ _ _ _ _) (head _ _ e.if-z-a.false) (read_head-in-Left e) c.in-Left.is (record { sfits = c.known_told-in-Left-1.given.0.1 })
+    part_on (reading_start _ _ _ _ _) (head _ _ e.if-z-a.false) (read_head-in-Left e) c.in-Left.is (grind arith)
 
 -- What is left to scan after the first part.
 after-head-in-Left-words_fwd : (c : goal.In-Left-words_fwd) → (let s = c.args in
     Reading forward (bit_at s.words.now) (s.to - s.from) s.from s.r (s.to - 8 * ((s.from + 7) / 8)) (8 * ((s.from + 7) / 8)) (to_z w64 (of_z w64 c.in-Left.p)))
 after-head-in-Left-words_fwd c =
     let e = c in
-    part_on (reading_start _ _ _ _ _) (head _ _ e.if-z-a.false) (read_head-in-Left-words_fwd e) c.in-Left.is (record { sfits = c.known_told-in-Left-1.given.0.1 })
+    part_on (reading_start _ _ _ _ _) (head _ _ e.if-z-a.false) (read_head-in-Left-words_fwd e) c.in-Left.is (grind arith)
 
 -- What is left to scan after the whole bytes.
 after-body-after-edge_fwd-in-Left-words_fwd : (c : goal.After-edge_fwd-in-Left-words_fwd) → (let e = c in let s = e.args in
@@ -94,7 +94,7 @@ after-body-after-edge_fwd-in-Left-words_fwd : (c : goal.After-edge_fwd-in-Left-w
 after-body-after-edge_fwd-in-Left-words_fwd c =
     let e = c in
     let h = e in
-    part_on (after-head-after-edge_fwd-in-Left-words_fwd h) (body _ _ h.if-z-a.false) e.words_fwd.ensures c.in-Left-words_fwd.is (record { sfits = c.known_told-in-Left-words_fwd-1.given.0.1 })
+    part_on (after-head-after-edge_fwd-in-Left-words_fwd h) (body _ _ h.if-z-a.false) e.words_fwd.ensures c.in-Left-words_fwd.is (grind arith)
 
 -- What is left to scan after the whole bytes.
 after-body-in-Left-words_fwd : (c : goal.In-Left-words_fwd) → (let e = c in let s = e.args in
@@ -102,7 +102,7 @@ after-body-in-Left-words_fwd : (c : goal.In-Left-words_fwd) → (let e = c in le
 after-body-in-Left-words_fwd c =
     let e = c in
     let h = e in
-    part_on (after-head-in-Left-words_fwd h) (body _ _ h.if-z-a.false) e.words_fwd.ensures c.in-Left-words_fwd.is (record { sfits = c.known_told-in-Left-words_fwd-1.given.0.1 })
+    part_on (after-head-in-Left-words_fwd h) (body _ _ h.if-z-a.false) e.words_fwd.ensures c.in-Left-words_fwd.is (grind arith)
 
 pub returns-in-Hit : goal.returns-in-Hit
 returns-in-Hit c = let e = c in part_hit (reading_start _ _ _ _ _) (head _ _ e.if-z-a.false) (read_head-in-Hit e) c.in-Hit.is

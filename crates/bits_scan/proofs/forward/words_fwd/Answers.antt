@@ -4,6 +4,7 @@ use mathlib.Core.Path.{◌≡◌, refl}
 use Prim.Native.Nat.{ℕ, ◌-◌, ◌+◌, ◌*◌, ◌/◌, ◌%◌, ◌<◌, min}
 use native.Mathlib.Omega.{arith}
 use mir.Syntax.{w64}
+use mir.Val.{to_z}
 use mir.ValLaws.{to_z-of_z}
 use Rattle.row.specs.Bits.{bit_at}
 use Rattle.row.specs.Way.{forward}
@@ -66,7 +67,7 @@ overflow_add-result c = omega (arith, hit_within forward _ _ _ _ (returns-in-Hit
 pub loop-k-preserved : goal.loop-k-preserved
 loop-k-preserved c =
     let p = c in
-    piece_on p.loop-k.invariant (piece-in-Left p) c.in-Left.is (record { sfits = c.known_told-in-Left-1.given.0.1 })
+    piece_on p.loop-k.invariant (piece-in-Left p) c.in-Left.is (grind arith)
 
 pub returns : goal.returns
 returns c = rw (to_z-of_z w64 _ c.ranges.r) at (reading_done c.loop-k.invariant (omega arith))
