@@ -19,6 +19,6 @@ pub returns : goal.returns
 returns c =
     let o = c in
     let s = o.args in
-    c.is_IsBody.ensures
+    c.is_body.ensures
     ∙ ap (λ (x : Summary). lt_z (pos 0) x.least && eq_z x.total (pos 1)) c.body_summary.ensures
     ∙ body_is s.words.now s.n (omega arith) (sym o.opens_at.ensures ∙ c.if-opens_at.false)

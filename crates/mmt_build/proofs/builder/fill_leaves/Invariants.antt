@@ -7,7 +7,7 @@ use Rattle.mmt_build.specs.Filling.{Filled}
 use Rattle.mmt_build.proofs.builder.fill_leaves.Given as goal
 
 abbrev pub invariant-loop-b : goal.invariant-loop-b
-invariant-loop-b l = (l.b ≤ l.l) × (length l.part ≡ length l.l.initial.part) × Filled l.l.words l.l.n l.l.block l.b l.part
+invariant-loop-b l = (l.b ≤ l.l) × (length l.part ≡ length l.initial.part) × Filled l.words l.n l.block l.b l.part
 
 abbrev pub decreases-loop-b : goal.decreases-loop-b
 decreases-loop-b l = l.l - l.b

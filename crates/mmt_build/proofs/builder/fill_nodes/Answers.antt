@@ -30,23 +30,23 @@ part_length-after-nodes-2-1 s =
 
 -- after the part is put back, the nodes from I on have their required entries
 middle-after-fill_levels-arg-1 : (c : goal.After-fill_levels-arg-1) → let a = c.args in
-    Leveled a.words.now a.n a.nodes.now a.block (inner a.n a.block) (back (width * a.first) (width * a.all - width * a.first) a.nodes.now c.fill_leaves.new.1.1.1.1.0)
+    Leveled a.words.now a.n a.nodes.now a.block (inner a.n a.block) (back (width * a.first) (width * a.all - width * a.first) a.nodes.now c.fill_leaves.new.part)
 middle-after-fill_levels-arg-1 c =
     let s = c in
     let a = s.args in
     let e = s.requires in
-    leaves_leveled a.words.now a.n a.nodes.now a.block e.fine.nodes (omega arith) (width * a.first) (width * a.all - width * a.first) c.fill_leaves.new.1.1.1.1.0
-    (omega arith) (omega arith) (c.fill_leaves.auto.1.1.1.1.0 ∙ part_length-after-fill_levels-arg-1 s ∙ omega (arith, layout_leaves a.n a.block (omega arith))) c.fill_leaves.ensures
+    leaves_leveled a.words.now a.n a.nodes.now a.block e.fine.nodes (omega arith) (width * a.first) (width * a.all - width * a.first) c.fill_leaves.new.part
+    (omega arith) (omega arith) (c.fill_leaves.auto.part ∙ part_length-after-fill_levels-arg-1 s ∙ omega (arith, layout_leaves a.n a.block (omega arith))) c.fill_leaves.ensures
 
 -- after the part is put back, the nodes from I on have their required entries
 middle-after-nodes-2-1 : (c : goal.After-nodes-2-1) → let a = c.args in
-    Leveled a.words.now a.n a.nodes.now a.block (inner a.n a.block) (back (width * a.first) (width * a.all - width * a.first) a.nodes.now c.fill_leaves.new.1.1.1.1.0)
+    Leveled a.words.now a.n a.nodes.now a.block (inner a.n a.block) (back (width * a.first) (width * a.all - width * a.first) a.nodes.now c.fill_leaves.new.part)
 middle-after-nodes-2-1 c =
     let s = c in
     let a = s.args in
     let e = s.requires in
-    leaves_leveled a.words.now a.n a.nodes.now a.block e.fine.nodes (omega arith) (width * a.first) (width * a.all - width * a.first) c.fill_leaves.new.1.1.1.1.0
-    (omega arith) (omega arith) (c.fill_leaves.auto.1.1.1.1.0 ∙ part_length-after-nodes-2-1 s ∙ omega (arith, layout_leaves a.n a.block (omega arith))) c.fill_leaves.ensures
+    leaves_leveled a.words.now a.n a.nodes.now a.block e.fine.nodes (omega arith) (width * a.first) (width * a.all - width * a.first) c.fill_leaves.new.part
+    (omega arith) (omega arith) (c.fill_leaves.auto.part ∙ part_length-after-nodes-2-1 s ∙ omega (arith, layout_leaves a.n a.block (omega arith))) c.fill_leaves.ensures
 
 pub fill_leaves-requires : goal.fill_leaves-requires
 fill_leaves-requires c =

@@ -30,13 +30,13 @@ pub returns-then-not-same : goal.returns-then-not-same
 returns-then-not-same c =
     let a = c.args in
     let l = c.loop-k in
-    differs a.words.now a.n a.nodes.now a.block l.k (l.k - 1) (omega arith) l.inv (sym (found-then-not-same c) ∙ c.if-not-same.true)
+    differs a.words.now a.n a.nodes.now a.block l.k (l.k - 1) (omega arith) l.invariant (sym (found-then-not-same c) ∙ c.if-not-same.true)
 
 pub loop-k-preserved : goal.loop-k-preserved
 loop-k-preserved c =
     let a = c.args in
     let l = c.loop-k in
-    down a.words.now a.n a.nodes.now a.block l.k (l.k - 1) (omega arith) l.inv (sym (found-else-not-same c) ∙ c.if-not-same.false)
+    down a.words.now a.n a.nodes.now a.block l.k (l.k - 1) (omega arith) l.invariant (sym (found-else-not-same c) ∙ c.if-not-same.false)
 
 pub returns : goal.returns
 returns c =

@@ -10,7 +10,11 @@ use Rattle.mmt_build.proofs.rule.leaf_summary.Goals as goal
 pub stretch_summary-requires : goal.stretch_summary-requires
 stretch_summary-requires c =
     let s = c in
-    (s.requires.table, (record { order = omega arith; inside = omega arith; short = omega arith }, (block_edge s.args.b s.args.block (omega arith), omega arith)))
+    record {
+      table = s.requires.table;
+      in_row = record { order = omega arith; inside = omega arith; short = omega arith };
+      from_value = (block_edge s.args.b s.args.block (omega arith), omega arith);
+    }
 
 pub returns : goal.returns
 unfolding leaf_of
