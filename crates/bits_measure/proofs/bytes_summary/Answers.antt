@@ -1,7 +1,7 @@
 -- `bits_measure::bytes_summary` returns the summary of at least one byte of a row. Loop invariant: x is the summary of bytes `from` to
 -- k - 1. Measure: the number of bytes left. Assumes nothing.
 use mathlib.Core.Path.{◌≡◌, ap, ◌∙◌}
-use Prim.Native.Nat.{ℕ, ◌-◌}
+use Prim.Native.Nat.{ℕ}
 use native.Mathlib.Omega.{arith}
 use Rattle.row.specs.Bits.{digit}
 use Rattle.bits_stretch.specs.Summary.{summary_of}

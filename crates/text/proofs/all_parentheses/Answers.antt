@@ -1,7 +1,6 @@
 -- `text::all_parentheses` tests whether every byte is a parenthesis. Loop invariant: all bytes are parentheses exactly if those
 -- from `i` on are. Measure: the number of bytes left. Assumes nothing.
 use mathlib.Core.Path.{sym, ◌∙◌}
-use Prim.Native.Nat.{◌-◌}
 use native.Mathlib.Omega.{arith}
 use borrow.Author.Rules.{rules}
 use Rattle.text.proofs.Text.{all_stop, all_step, all_done}

@@ -1,7 +1,6 @@
 -- `text::write_words` writes the first `need` words of a text into a slice. Loop invariant: words 0 to k - 1 are written, and words
 -- from k on are unchanged. Measure: the number of words left to write. Assumes nothing.
 use mathlib.Core.Path.{◌≡◌, refl}
-use Prim.Native.Nat.{◌-◌}
 use native.Mathlib.Omega.{arith}
 use borrow.Author.Rules.{rules}
 use lib.ListN.{length-set}

@@ -1,7 +1,6 @@
 -- `mmt_build::fill_leaves` fills the block leaves from the first to the last. Loop invariant: the first b block leaves are filled.
 -- Measure: the number of block leaves that are left. Assumes nothing.
 use mathlib.Core.Path.{◌≡◌, ◌∙◌}
-use Prim.Native.Nat.{◌-◌}
 use native.Mathlib.Omega.{arith}
 use Rattle.mmt_layout.specs.Layout.{leaves}
 use Rattle.mmt_layout.proofs.Powers.{leaves_in}

@@ -1,6 +1,6 @@
 -- `mmt_build::fill_levels` fills the inner nodes from the last one down to node 0. Loop invariant: the nodes from k on have their required
 -- entries, and the length and the entries after the nodes are unchanged. Measure: k. Assumes nothing.
-use Prim.Native.Nat.{◌-◌, ◌≤◌}
+use Prim.Native.Nat.{◌≤◌}
 use Rattle.mmt_build.specs.Filling.{Leveled}
 use Rattle.mmt_build.proofs.builder.fill_levels.Given as goal
 

@@ -1,6 +1,5 @@
 -- `mmt_build::all_wanted` tests the nodes from the last one down to node 0. Loop invariant: the nodes from k on have their required entries,
 -- so the nodes below k decide. Measure: k. Assumes nothing.
-use Prim.Native.Nat.{◌-◌}
 use Rattle.mmt_build.proofs.Tested.{Checked}
 use Rattle.mmt_build.proofs.check.all_wanted.Given as goal
 

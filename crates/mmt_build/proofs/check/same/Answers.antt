@@ -30,7 +30,7 @@ returns-else-x-y-2 c =
     let differ : first_two x y ≡ false =
     elim c.if-x-y-2.either [
       | inl e ↦ let total : x.total ≡ y.total = bits_≡ (omega arith) (omega arith) e.0 in
-        rw (eq_z_yes _ _ total, eq_z_no x.least y.least (λ p. e.1 (ap (of_z w64) p)))
+          rw (eq_z_yes _ _ total, eq_z_no x.least y.least (λ p. e.1 (ap (of_z w64) p)))
       | inr n ↦ rw (eq_z_no x.total y.total (λ p. n (ap (of_z w64) p)))
     ] in
     elim c.if-x-y.branch [
