@@ -14,11 +14,11 @@
 --   past_size: the remainder in the answer `Past` is larger by at most 2^32
 -- Assumes nothing.
 use mathlib.Core.Path.{◌≡◌, refl, sym, ◌∙◌}
-use mathlib.Core.Bool.{Bool, true, false, cond, not, ◌&&◌}
+use mathlib.Core.Bool.{Bool, true, false, cond, ◌&&◌}
 use mathlib.Core.List.{List}
 use Prim.Native.Nat.{ℕ, ◌+◌, ◌≤◌, ◌<◌}
 use native.Mathlib.Omega.{arith}
-use borrow.Author.Tests.{leb-true, leb-false, le-leb, lt-leb, not-true, not-false}
+use borrow.Author.Tests.{leb-true, leb-false, le-leb, lt-leb}
 use lib.Dec.{leb}
 use lib.IntN.{ℤ, pos, negsuc, neg_ℤ}
 use lib.Signed.{le_z}
@@ -63,11 +63,11 @@ pub passed_fits : (w : Way) (r : ℤ) (x : Summary) → fits x ≡ true → Room
 passed_fits w r x e h = omega (zsum, passed_size w r x e)
 
 -- ---- the test `!near_zero(z)`, where the machine reads z back from 64 bits
-pub told_no : {z : ℤ} {b : Bool} → SFits w64 z → b ≡ in_range (to_z w64 (of_z w64 z)) → not b ≡ true → in_range z ≡ false
-told_no {z} {b} f q e = sym (rw (to_z-of_z w64 z f) at q) ∙ not-true b e
+pub told_no : {z : ℤ} {b : Bool} → SFits w64 z → b ≡ in_range (to_z w64 (of_z w64 z)) → b ≡ false → in_range z ≡ false
+told_no {z} {b} f q e = sym (rw (to_z-of_z w64 z f) at q) ∙ e
 
-pub told_yes : {z : ℤ} {b : Bool} → SFits w64 z → b ≡ in_range (to_z w64 (of_z w64 z)) → not b ≡ false → in_range z ≡ true
-told_yes {z} {b} f q e = sym (rw (to_z-of_z w64 z f) at q) ∙ not-false b e
+pub told_yes : {z : ℤ} {b : Bool} → SFits w64 z → b ≡ in_range (to_z w64 (of_z w64 z)) → b ≡ true → in_range z ≡ true
+told_yes {z} {b} f q e = sym (rw (to_z-of_z w64 z f) at q) ∙ e
 
 -- ---- an examined node with the entries x
 module _ (x : Summary) where
