@@ -5,7 +5,6 @@
 --   climbed_up: at a node without a sibling beyond it, the climb goes on at the parent
 --   climbed_asked: at any other node `by_beside` is the result
 --   rises_start, rises_on: `Rises` holds at the start, and after each node without a sibling beyond it
---   answer: the answer of the sibling, where the machine reads the remainder back from 64 bits
 --   part: for each answer of the sibling, `by_beside` is the result of the whole climb
 --   part_room: after a passed sibling, the remainder has room for the climb from the parent
 --   Turned, turned: the node that a climb turns to exists and has its height, and the remainder has room for a descent
@@ -18,9 +17,6 @@ use native.Mathlib.Omega.{arith}
 use borrow.Author.Tests.{eqb-false, leb-false}
 use lib.Dec.{leb, eqb}
 use lib.IntN.{ℤ}
-use mir.Syntax.{w64}
-use mir.Val.{SFits, to_z, of_z}
-use mir.ValLaws.{to_z-of_z}
 use Rattle.row.specs.Way.{Way}
 use Rattle.bits_stretch.specs.Scan.{passed}
 use Rattle.mmt_node.specs.Nodes.{node_at}
@@ -90,9 +86,6 @@ module _ (w : Way) (k h : ℕ) where
 
 -- ---- the sibling beyond node j is asked, where node j at height g is above node k at height h
 module _ (w : Way) (m : ℕ) (s : List ℤ) (k h : ℕ) (r : ℤ) {j g : ℕ} (y : Above w k h j g) (z : j ≡ 0 → ⊥) where
-  pub answer : {a b : Asked} → SFits w64 r → a ≡ asked_of w m s (sibling_beyond w j) (to_z w64 (of_z w64 r)) → a ≡ b → asked_of w m s (sibling_beyond w j) r ≡ b
-  answer f p e = sym (rw (to_z-of_z w64 r f) at p) ∙ e
-
   pub part : {b : Asked} → asked_of w m s (sibling_beyond w j) r ≡ b → by_beside w m s g j r b ≡ climbed_of (climb w m s k h k r 0)
   part e = climbed_asked w m s g j r z (y.sibling z) e ∙ y.rises.same m s r
 

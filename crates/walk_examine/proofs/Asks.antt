@@ -10,6 +10,7 @@
 --   Looked, looked: what each result of `examine` says about the node
 --   total_back: the total that the machine reads is the total of the node
 --   asked_absent, asked_misfit, asked_here, asked_past: the answer of a node in each of the four cases
+--   answer: the answer of the node, where the machine reads the remainder back from 64 bits
 --   Says, says: what each answer says about the node
 --   past_size: the remainder in the answer `Past` is larger by at most 2^32
 -- Assumes nothing.
@@ -122,6 +123,9 @@ module _ (w : Way) (m : ℕ) (s : List ℤ) (k : ℕ) (r : ℤ) where
       pub asked_past : holds_on w (node_at s k) r ≡ false → Past (passed w r (node_at s k).total) ≡ asked_of w m s k r
       unfolding asked_of
       asked_past y = rw (lt-leb m k l, f, y)
+
+  pub answer : {a b : Asked} → SFits w64 r → a ≡ asked_of w m s k (to_z w64 (of_z w64 r)) → a ≡ b → asked_of w m s k r ≡ b
+  answer {a} {b} f p e = sym (rw (to_z-of_z w64 r f) at p) ∙ e
 
   -- what each answer says about node k
   abbrev pub Says : Asked → Type 0

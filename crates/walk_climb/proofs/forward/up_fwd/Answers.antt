@@ -5,8 +5,8 @@ use native.Mathlib.Omega.{arith}
 use mir.Syntax.{w64}
 use mir.ValLaws.{to_z-of_z}
 use Rattle.row.specs.Way.{forward}
-use Rattle.walk_examine.proofs.Asks.{room_fits}
-use Rattle.walk_climb.proofs.Climbs.{climbed_root, answer, part, part_room}
+use Rattle.walk_examine.proofs.Asks.{room_fits, answer}
+use Rattle.walk_climb.proofs.Climbs.{climbed_root, part, part_room}
 use Rattle.walk_climb.proofs.forward.up_fwd.Goals as goal
 
 pub returns-then-j-eq0 : goal.returns-then-j-eq0
@@ -25,7 +25,7 @@ pub returns-in-Here : goal.returns-in-Here
 returns-in-Here c =
     let a = c.args in
     let y = c.left_above-p.ensures in
-    let e = answer forward a.all a.nodes.now a.k a.h a.r y c.if-j-eq0.false c.ranges.r c.ask_fwd.ensures c.in-Here.is in
+    let e = answer forward a.all a.nodes.now _ a.r c.ranges.r c.ask_fwd.ensures c.in-Here.is in
     record { result = rw (to_z-of_z w64 _ c.ranges.r) (part forward a.all a.nodes.now a.k a.h a.r y c.if-j-eq0.false e); higher = tt }
 
 pub returns-in-Past : goal.returns-in-Past
@@ -33,7 +33,7 @@ returns-in-Past c =
     let a = c.args in
     let y = c.left_above-p.ensures in
     let u = y.rises.under in
-    let e = answer forward a.all a.nodes.now a.k a.h a.r y c.if-j-eq0.false c.ranges.r c.ask_fwd.ensures c.in-Past.is in
+    let e = answer forward a.all a.nodes.now _ a.r c.ranges.r c.ask_fwd.ensures c.in-Past.is in
     let o = part_room forward a.all a.nodes.now a.k a.h a.r y c.if-j-eq0.false e c.requires.room in
     rw (to_z-of_z w64 _ (room_fits _ _ o)) (record {
       result = part forward a.all a.nodes.now a.k a.h a.r y c.if-j-eq0.false e;
@@ -44,12 +44,12 @@ pub returns-in-Absent : goal.returns-in-Absent
 returns-in-Absent c =
     let a = c.args in
     let y = c.left_above-p.ensures in
-    let e = answer forward a.all a.nodes.now a.k a.h a.r y c.if-j-eq0.false c.ranges.r c.ask_fwd.ensures c.in-Absent.is in
+    let e = answer forward a.all a.nodes.now _ a.r c.ranges.r c.ask_fwd.ensures c.in-Absent.is in
     record { result = part forward a.all a.nodes.now a.k a.h a.r y c.if-j-eq0.false e; higher = tt }
 
 pub returns-in-Misfit : goal.returns-in-Misfit
 returns-in-Misfit c =
     let a = c.args in
     let y = c.left_above-p.ensures in
-    let e = answer forward a.all a.nodes.now a.k a.h a.r y c.if-j-eq0.false c.ranges.r c.ask_fwd.ensures c.in-Misfit.is in
+    let e = answer forward a.all a.nodes.now _ a.r c.ranges.r c.ask_fwd.ensures c.in-Misfit.is in
     record { result = part forward a.all a.nodes.now a.k a.h a.r y c.if-j-eq0.false e; higher = tt }
