@@ -1,6 +1,8 @@
 -- `walk_climb::forward::left_above` goes up past right children. Loop invariant: a climb from node j has the result of a climb from node k, and
 -- needs no more room. Measure: j. Assumes nothing.
+use Prim.Native.Nat.{◌%◌}
 use native.Mathlib.Omega.{arith}
+use borrow.Author.Tests.{eq-eqb, ne_eqb}
 use Rattle.row.specs.Way.{forward}
 use Rattle.walk_climb.proofs.Climbs.{rises_start, rises_on}
 use Rattle.walk_climb.proofs.forward.left_above.Goals as goal
@@ -21,10 +23,10 @@ pub loop-j-preserved : goal.loop-j-preserved
 loop-j-preserved c =
     let l = c in
     let a = l.args in
-    rises_on forward a.k a.h l.loop-j.j l.loop-j.g l.loop-j.invariant (λ z. omega arith) c.if-j-eq0.true
+    rises_on forward a.k a.h l.loop-j.j l.loop-j.g l.loop-j.invariant (λ z. omega arith) (eq-eqb (l.loop-j.j % 2) 0 c.if-j-eq0.true)
 
 pub returns-else-j-eq0 : goal.returns-else-j-eq0
-returns-else-j-eq0 c = record { rises = c.loop-j.invariant; sibling = λ z. c.if-j-eq0.false }
+returns-else-j-eq0 c = record { rises = c.loop-j.invariant; sibling = λ z. ne_eqb (c.loop-j.j % 2) 0 c.if-j-eq0.false }
 
 pub returns-after-loop-j : goal.returns-after-loop-j
 returns-after-loop-j c = record { rises = c.loop-j.invariant; sibling = λ z. absurd (z (omega arith)) }
