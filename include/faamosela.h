@@ -60,15 +60,15 @@
  *
  * The functions live in two static libraries for Linux on x86-64:
  *
- *   library      built with           functions
- *   libcapi.a    rt staticlib capi    bp_build, bp_close, bp_enclose and bp_is_ancestor
- *   libprobe.a   rt staticlib probe   all other functions of this header
+ *   library                      functions
+ *   crates/capi/out/libcapi.a    bp_build, bp_close, bp_enclose and bp_is_ancestor
+ *   crates/probe/out/libprobe.a  all other functions of this header
  *
- * Run the two commands in the root folder of the repository. `rt` is the tool of the Rattle kit. It proves the code and
- * writes the libraries to target/staticlib. No function is in both libraries, so a program can link both.
- * They need only the C library. This command links the program example.c:
+ * Run `rt lib` in crates/capi and in crates/probe. `rt` is the tool of the Rattle kit. It proves the code and writes the
+ * libraries. No function is in both libraries, so a program can link both.
+ * They need only the C library. This command, in the root folder of the repository, links the program example.c:
  *
- *   cc -Iinclude example.c -Ltarget/staticlib -lcapi -lprobe -o example
+ *   cc -Iinclude example.c -Lcrates/capi/out -Lcrates/probe/out -lcapi -lprobe -o example
  *
  *
  * TERMS

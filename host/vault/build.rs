@@ -1,6 +1,6 @@
-//! Links the static libraries from `target/staticlib` of the repository.
+//! Links the static libraries of the repository, `crates/NAME/out/libNAME.a`.
 //!
-//! A library that is missing or older than its Rattle sources is first proved and built with `rt staticlib`.
+//! A library that is missing or older than its Rattle sources is first proved and built with `rt lib`.
 
 use std::collections::BTreeSet;
 use std::fs;
@@ -13,22 +13,22 @@ const LIBRARIES: [&str; 2] = ["capi", "probe"];
 fn main() {
     let manifest = PathBuf::from(std::env::var_os("CARGO_MANIFEST_DIR").expect("cargo sets CARGO_MANIFEST_DIR"));
     let root = manifest.ancestors().nth(2).expect("the package is in the folder host/ of the repository");
-    let built = root.join("target/staticlib");
     let listed = root.join("crates.txt");
     watch(&listed);
     let list = fs::read_to_string(&listed).expect("cannot read crates.txt of the repository");
     for library in LIBRARIES {
+        let built = root.join("crates").join(library).join("out");
         let archive = built.join(format!("lib{library}.a"));
         watch(&archive);
         let sources: Vec<_> =
             reached(&list, library).iter().map(|name| root.join("crates").join(name).join("src")).collect();
         sources.iter().for_each(|folder| watch(folder));
         if changed(&archive) < sources.iter().map(|folder| newest(folder)).max().flatten() {
-            prove(root, library);
+            prove(&root.join("crates").join(library), library);
         }
         println!("cargo:rustc-link-lib=static={library}");
+        println!("cargo:rustc-link-search=native={}", built.display());
     }
-    println!("cargo:rustc-link-search=native={}", built.display());
 }
 
 /// Tells cargo to run this script again when `path` changes.
@@ -38,14 +38,14 @@ fn watch(path: &Path) {
 
 /// Returns the crate `name` and all listed crates that it depends on, directly or not.
 ///
-/// A line of the list is `NAME: DEP DEP ..`, and `#` starts a comment. A dependency that the list does not name is a library
-/// of the Rattle kit and is skipped.
+/// A line of the list is `NAME: DEP DEP ..`, or `NAME staticlib: DEP DEP ..` for a static library, and `#` starts a comment. A
+/// dependency that the list does not name is a library of the Rattle kit and is skipped.
 fn reached(list: &str, name: &str) -> BTreeSet<String> {
     let depends = |of: &str| {
         let lines = list.lines().map(|line| line.split('#').next().unwrap_or(""));
         lines
             .filter_map(|line| line.split_once(':'))
-            .find(|(crate_name, _)| crate_name.trim() == of)
+            .find(|(crate_name, _)| crate_name.split_whitespace().next() == Some(of))
             .map(|(_, deps)| deps)
     };
     let mut found = BTreeSet::new();
@@ -75,13 +75,13 @@ fn newest(folder: &Path) -> Option<SystemTime> {
         .flatten()
 }
 
-/// Proves and builds a library with `rt`. Panics with the output of `rt` if it fails.
-fn prove(root: &Path, library: &str) {
-    let run = Command::new("rt").args(["staticlib", library]).current_dir(root).output();
+/// Proves and builds the library of the crate in `folder` with `rt`. Panics with the output of `rt` if it fails.
+fn prove(folder: &Path, library: &str) {
+    let run = Command::new("rt").arg("lib").current_dir(folder).output();
     let run = run.unwrap_or_else(|error| panic!("cannot run `rt` to prove and build lib{library}.a: {error}"));
     assert!(
         run.status.success(),
-        "`rt staticlib {library}` failed:\n{}{}",
+        "`rt lib` failed in crates/{library}:\n{}{}",
         String::from_utf8_lossy(&run.stdout),
         String::from_utf8_lossy(&run.stderr)
     );

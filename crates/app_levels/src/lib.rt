@@ -8,25 +8,25 @@
 mod print;
 mod whole;
 
-use libc::STDOUT_FILENO;
+use std::io::{Read, Result, Write};
 
 // The size of a page in bytes. All output fits: the first line and at most 2,048 lines of outline nodes, of at most 20 bytes each.
 const PAGE: usize = 65536;
 
-fn write_page(page: &[u8], at: usize) {
+fn write_page<W: Write>(output: &mut W, page: &[u8], at: usize) -> Result<()> {
     let count = app_page::filled(page, at);
-    io::write_all(STDOUT_FILENO, &page[..count]);
+    output.write_all(&page[..count])
 }
 
-fn answer(bytes: &[u8]) {
+fn answer<W: Write>(bytes: &[u8], output: &mut W) -> Result<()> {
     let mut page = [0u8; PAGE];
     let at = whole::put_answer(bytes, &mut page);
-    write_page(&page, at);
+    write_page(output, &page, at)
 }
 
-// Reads from the file descriptor `fd` and prints to standard output. `levels` passes standard input, `test_inputs` passes files.
-pub fn run(fd: i32) {
+// Reads from `input` and prints to `output`. `levels` passes standard input and output; `test_inputs` passes files in place of standard input.
+pub fn run<R: Read, W: Write>(input: &mut R, output: &mut W) -> Result<()> {
     let mut bytes = [0; 4097];
-    let count = io::read_full(fd, &mut bytes);
-    answer(&bytes[..count]);
+    let count = app_line::read_full(input, &mut bytes)?;
+    answer(&bytes[..count], output)
 }

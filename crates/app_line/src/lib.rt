@@ -9,6 +9,9 @@ ghost use Rattle.io.specs.Counts.{IsPrefixLen};
 ghost use Rattle.row.specs.Answer.{paper_read};
 ghost use Rattle.app_line.specs.Input.{line_end, line_answer, line_words, Admits, input_answer};
 
+mod input;
+
+pub use input::read_full;
 use row::{Read, Refusal, Told};
 
 // Returns the index of the first newline, or the length if there is none.

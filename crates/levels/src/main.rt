@@ -2,8 +2,8 @@
 // CI runs it on the example of SCOPE, The program `levels`.
 #![tactic(auto)]
 
-use libc::STDIN_FILENO;
+use std::io;
 
-fn main() {
-    app_levels::run(STDIN_FILENO);
+fn main(rt: HostRuntime) -> io::Result<()> {
+    app_levels::run(&mut rt.reader(), &mut io::writer(&rt))
 }

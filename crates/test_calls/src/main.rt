@@ -5,7 +5,9 @@ mod outlines;
 mod say;
 mod searches;
 
-fn main() {
-    searches::run();
-    outlines::run();
+use std::io;
+
+fn main(rt: HostRuntime) -> io::Result<()> {
+    searches::run(&rt)?;
+    outlines::run(&rt)
 }

@@ -3,39 +3,40 @@
 use crate::say;
 use list_slice::Listed;
 use row::{Built, Found, Refusal};
+use std::io;
 
 // Prints a refusal and ends the line.
-fn refused(k: Refusal) {
-    say::number(b" refused", row::number(k));
-    say::line(b"");
+fn refused(rt: &impl Print, k: Refusal) -> io::Result<()> {
+    say::number(rt, b" refused", row::number(k))?;
+    say::line(rt, b"")
 }
 
-fn tell_built(b: Built) {
+fn tell_built(rt: &impl Print, b: Built) -> io::Result<()> {
     match b {
-        Built::Done => {}
-        Built::Refused(k) => say::number(b"build refused", row::number(k)),
+        Built::Done => Ok(()),
+        Built::Refused(k) => say::number(rt, b"build refused", row::number(k)),
     }
 }
 
-fn tell(f: Found) {
+fn tell(rt: &impl Print, f: Found) -> io::Result<()> {
     match f {
-        Found::At(j) => say::number(b"", j as u64),
-        Found::Nothing => say::line(b" nothing"),
-        Found::Refused(k) => refused(k),
+        Found::At(j) => say::number(rt, b"", j as u64),
+        Found::Nothing => say::line(rt, b" nothing"),
+        Found::Refused(k) => refused(rt, k),
     }
 }
 
 // Prints an answer as `list` writes it: a position, -1 for nothing, or -1 - k for refusal k. It compares the bits of x, as a u64, with their
 // complement: if x is negative, the complement is the smaller one and equals -1 - x.
-fn tell_number(x: i64) {
+fn tell_number(rt: &impl Print, x: i64) -> io::Result<()> {
     let bits = wire::to_word(x);
     let less = u64::MAX - bits;
     if bits < less {
-        say::number(b"", bits);
+        say::number(rt, b"", bits)
     } else if less == 0 {
-        say::line(b" nothing");
+        say::line(rt, b" nothing")
     } else {
-        say::number(b" refused", less);
+        say::number(rt, b" refused", less)
     }
 }
 
@@ -49,152 +50,188 @@ fn beside(words: &[u64], n: usize, nodes: &[i64], rising: bool, v: usize) -> Fou
 }
 
 // Prints a level from one end to the other. `from` is the answer for the first end.
-fn along(words: &[u64], n: usize, nodes: &[i64], rising: bool, from: Found) {
+fn along(
+    rt: &impl Print,
+    words: &[u64],
+    n: usize,
+    nodes: &[i64],
+    rising: bool,
+    from: Found,
+) -> io::Result<()> {
     let mut f = from;
     let mut left = n;
     while 0 < left {
         left -= 1;
-        tell(f);
+        tell(rt, f)?;
         match f {
             Found::At(v) => {
                 f = beside(words, n, nodes, rising, v);
             }
             Found::Nothing => {
-                return;
+                return Ok(());
             }
             Found::Refused(_) => {
-                return;
+                return Ok(());
             }
         }
     }
+    Ok(())
 }
 
 // Prints the levels from 0 to `deepest` - 1, in both directions. Callers pass a `deepest` for which the last of these levels is empty.
-fn levels(words: &[u64], n: usize, nodes: &[i64], deepest: u64) {
+fn levels(rt: &impl Print, words: &[u64], n: usize, nodes: &[i64], deepest: u64) -> io::Result<()> {
     let mut k = 0;
     while k < deepest {
-        say::number(b"level", k);
+        say::number(rt, b"level", k)?;
         along(
+            rt,
             words,
             n,
             nodes,
             true,
             bp::level_leftmost(words, n, nodes, 8, k),
-        );
-        say::number(b"level", k);
+        )?;
+        say::number(rt, b"level", k)?;
         along(
+            rt,
             words,
             n,
             nodes,
             false,
             bp::level_rightmost(words, n, nodes, 8, k),
-        );
+        )?;
         k += 1;
     }
+    Ok(())
 }
 
-fn answers(out: &[i64], count: usize) {
+fn answers(rt: &impl Print, out: &[i64], count: usize) -> io::Result<()> {
     let end = row::earlier(count, out.len());
     let mut i = 0;
     while i < end {
-        tell_number(out[i]);
+        tell_number(rt, out[i])?;
         i += 1;
     }
+    Ok(())
 }
 
-fn tell_listed(l: Listed, out: &[i64]) {
+fn tell_listed(rt: &impl Print, l: Listed, out: &[i64]) -> io::Result<()> {
     match l {
-        Listed::Count(c) => answers(out, c),
-        Listed::Refused(k) => refused(k),
+        Listed::Count(c) => answers(rt, out, c),
+        Listed::Refused(k) => refused(rt, k),
     }
 }
 
 // Prints the children of the outline node v, in one direction.
-fn children(words: &[u64], n: usize, nodes: &[i64], block: usize, rising: bool, v: usize) {
+fn children(
+    rt: &impl Print,
+    words: &[u64],
+    n: usize,
+    nodes: &[i64],
+    block: usize,
+    rising: bool,
+    v: usize,
+) -> io::Result<()> {
     let mut out = [0i64; 70];
-    say::number(b"children of", v as u64);
+    say::number(rt, b"children of", v as u64)?;
     let listed = list_slice::list(words, n, nodes, block, rising, v, &mut out);
-    tell_listed(listed, &out);
+    tell_listed(rt, listed, &out)
 }
 
 // Prints the children of every position before `end`, in both directions. The position of a close bit is refused.
-fn families(words: &[u64], n: usize, nodes: &[i64], end: usize) {
+fn families(rt: &impl Print, words: &[u64], n: usize, nodes: &[i64], end: usize) -> io::Result<()> {
     let mut v = 0;
     while v < end {
-        children(words, n, nodes, 8, true, v);
-        children(words, n, nodes, 8, false, v);
+        children(rt, words, n, nodes, 8, true, v)?;
+        children(rt, words, n, nodes, 8, false, v)?;
         v += 1;
     }
+    Ok(())
 }
 
 // Builds the nodes for the first n bits of two words, with B = 8. Prints the levels, and the children of every position before `end`.
-fn outline(low: u64, high: u64, n: usize, deepest: u64, end: usize) {
+fn outline(
+    rt: &impl Print,
+    low: u64,
+    high: u64,
+    n: usize,
+    deepest: u64,
+    end: usize,
+) -> io::Result<()> {
     let words = [low, high];
     let mut nodes = [0i64; 93];
-    tell_built(mmt_build::build(&words, n, &mut nodes, 8));
-    levels(&words, n, &nodes, deepest);
-    families(&words, n, &nodes, end);
+    tell_built(rt, mmt_build::build(&words, n, &mut nodes, 8))?;
+    levels(rt, &words, n, &nodes, deepest)?;
+    families(rt, &words, n, &nodes, end)
 }
 
 // Builds the nodes for the first n bits of two words, with B = 8. Prints the children of v, in one direction, asked for with B = `block`.
-fn listing(low: u64, high: u64, n: usize, block: usize, rising: bool, v: usize) {
+fn listing(
+    rt: &impl Print,
+    low: u64,
+    high: u64,
+    n: usize,
+    block: usize,
+    rising: bool,
+    v: usize,
+) -> io::Result<()> {
     let words = [low, high];
     let mut nodes = [0i64; 93];
-    tell_built(mmt_build::build(&words, n, &mut nodes, 8));
-    children(&words, n, &nodes, block, rising, v);
+    tell_built(rt, mmt_build::build(&words, n, &mut nodes, 8))?;
+    children(rt, &words, n, &nodes, block, rising, v)
 }
 
 // Row T, `(()(()))`; a position after its end; and a block size that is refused.
-fn small() {
-    say::line(b"(()(()))");
-    outline(27, 0, 8, 4, 8);
-    listing(27, 0, 8, 8, true, 8);
-    listing(27, 0, 8, 12, true, 0);
+fn small(rt: &impl Print) -> io::Result<()> {
+    say::line(rt, b"(()(()))")?;
+    outline(rt, 27, 0, 8, 4, 8)?;
+    listing(rt, 27, 0, 8, 8, true, 8)?;
+    listing(rt, 27, 0, 8, 12, true, 0)
 }
 
 // One outline node: `level_rightmost(0)` is nothing, as in the Rust.
-fn pair() {
-    say::line(b"()");
-    outline(1, 0, 2, 2, 2);
+fn pair(rt: &impl Print) -> io::Result<()> {
+    say::line(rt, b"()")?;
+    outline(rt, 1, 0, 2, 2, 2)
 }
 
 // A tree of 40 bits in five blocks.
-fn middling() {
-    say::line(b"((()(()))()((()))((())(()()))(()(()))())");
-    outline(0x2362ce3a37, 0, 40, 5, 40);
+fn middling(rt: &impl Print) -> io::Result<()> {
+    say::line(rt, b"((()(()))()((()))((())(()()))(()(()))())")?;
+    outline(rt, 0x2362ce3a37, 0, 40, 5, 40)
 }
 
 // A root with 63 children, all of them outline leaves.
-fn wide() {
-    say::line(b"wide");
-    outline(0xaaaaaaaaaaaaaaab, 0x2aaaaaaaaaaaaaaa, 128, 3, 1);
+fn wide(rt: &impl Print) -> io::Result<()> {
+    say::line(rt, b"wide")?;
+    outline(rt, 0xaaaaaaaaaaaaaaab, 0x2aaaaaaaaaaaaaaa, 128, 3, 1)
 }
 
 // A chain of 64 outline nodes, each the only child of the one before.
-fn deep() {
-    say::line(b"deep");
-    outline(0xffffffffffffffff, 0, 128, 65, 0);
-    listing(0xffffffffffffffff, 0, 128, 8, true, 62);
-    listing(0xffffffffffffffff, 0, 128, 8, false, 63);
+fn deep(rt: &impl Print) -> io::Result<()> {
+    say::line(rt, b"deep")?;
+    outline(rt, 0xffffffffffffffff, 0, 128, 65, 0)?;
+    listing(rt, 0xffffffffffffffff, 0, 128, 8, true, 62)?;
+    listing(rt, 0xffffffffffffffff, 0, 128, 8, false, 63)
 }
 
 // The total of min-max node 4 is changed from 2 to 5. Then the reverse listing of the outline node 9 answers position 5, which is a close bit
 // (SCOPE, Listing children).
-fn foreign() {
-    say::line(b"((((())))((()()()))) with foreign nodes");
-    listing(0xae1f, 0, 20, 8, false, 9);
+fn foreign(rt: &impl Print) -> io::Result<()> {
+    say::line(rt, b"((((())))((()()()))) with foreign nodes")?;
+    listing(rt, 0xae1f, 0, 20, 8, false, 9)?;
     let words = [0xae1fu64; 1];
     let mut nodes = [0i64; 18];
-    tell_built(mmt_build::build(&words, 20, &mut nodes, 8));
+    tell_built(rt, mmt_build::build(&words, 20, &mut nodes, 8))?;
     nodes[12] = 5;
-    children(&words, 20, &nodes, 8, false, 9);
+    children(rt, &words, 20, &nodes, 8, false, 9)
 }
 
-pub fn run() {
-    small();
-    pair();
-    middling();
-    wide();
-    deep();
-    foreign();
+pub fn run(rt: &impl Print) -> io::Result<()> {
+    small(rt)?;
+    pair(rt)?;
+    middling(rt)?;
+    wide(rt)?;
+    deep(rt)?;
+    foreign(rt)
 }

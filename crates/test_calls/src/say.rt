@@ -1,21 +1,21 @@
 // Prints to standard output.
-use libc::STDOUT_FILENO;
+use std::io;
 
 // Prints a label and a number, without ending the line.
-pub fn number(label: &[u8], n: u64) {
-    io::write_all(STDOUT_FILENO, label);
-    io::write_all(STDOUT_FILENO, b" ");
-    io::print_decimal(STDOUT_FILENO, n);
+pub fn number(rt: &impl Print, label: &[u8], n: u64) -> io::Result<()> {
+    rt.write_all(label)?;
+    rt.write_all(b" ")?;
+    rt.print(n)
 }
 
 // Prints a text and ends the line.
-pub fn line(text: &[u8]) {
-    io::write_all(STDOUT_FILENO, text);
-    io::write_all(STDOUT_FILENO, b"\n");
+pub fn line(rt: &impl Print, text: &[u8]) -> io::Result<()> {
+    rt.write_all(text)?;
+    rt.write_all(b"\n")
 }
 
 // Prints a label and a number, and ends the line.
-pub fn number_line(label: &[u8], n: u64) {
-    number(label, n);
-    line(b"");
+pub fn number_line(rt: &impl Print, label: &[u8], n: u64) -> io::Result<()> {
+    number(rt, label, n)?;
+    line(rt, b"")
 }

@@ -4,38 +4,33 @@
 // bytes.
 #![tactic(auto)]
 
-use libc::STDOUT_FILENO;
+use std::io;
+use std::rt::Files;
 
-fn case(path: &[u8]) {
-    io::write_all(STDOUT_FILENO, path);
-    io::write_all(STDOUT_FILENO, b"\n");
-    let fd = os::open_read(path);
-    if fd < 0 {
-        os::fail(path);
-        return;
-    }
-    app_levels::run(fd);
-    libc::close(fd);
+fn case<R: Files + Print>(rt: &R, path: &str) -> io::Result<()> {
+    rt.println(path)?;
+    let mut file = std::fs::open(rt, path)?;
+    app_levels::run(&mut file, &mut io::writer(rt))
 }
 
-fn main() {
-    case(b"empty");
-    case(b"newline_first");
-    case(b"one_node");
-    case(b"more_lines");
-    case(b"mixed");
-    case(b"deep");
-    case(b"wide");
-    case(b"too_long");
-    case(b"too_long_other_bytes");
-    case(b"line_too_late");
-    case(b"bad_byte");
-    case(b"carriage_return");
-    case(b"nul");
-    case(b"blank");
-    case(b"bad_byte_unbalanced");
-    case(b"unclosed");
-    case(b"closes_first");
-    case(b"two_trees");
-    case(b"long_unbalanced");
+fn main(rt: HostRuntime) -> io::Result<()> {
+    case(&rt, "empty")?;
+    case(&rt, "newline_first")?;
+    case(&rt, "one_node")?;
+    case(&rt, "more_lines")?;
+    case(&rt, "mixed")?;
+    case(&rt, "deep")?;
+    case(&rt, "wide")?;
+    case(&rt, "too_long")?;
+    case(&rt, "too_long_other_bytes")?;
+    case(&rt, "line_too_late")?;
+    case(&rt, "bad_byte")?;
+    case(&rt, "carriage_return")?;
+    case(&rt, "nul")?;
+    case(&rt, "blank")?;
+    case(&rt, "bad_byte_unbalanced")?;
+    case(&rt, "unclosed")?;
+    case(&rt, "closes_first")?;
+    case(&rt, "two_trees")?;
+    case(&rt, "long_unbalanced")
 }

@@ -6,7 +6,9 @@ mod nodes;
 mod rows;
 mod say;
 
-fn main() {
-    rows::run();
-    nodes::run();
+use std::io;
+
+fn main(rt: HostRuntime) -> io::Result<()> {
+    rows::run(&rt)?;
+    nodes::run(&rt)
 }

@@ -2,83 +2,85 @@
 // one-tree test.
 use crate::say;
 use row::{Read, Told};
+use std::io;
 
-fn entry(b: u8) {
+fn entry(rt: &impl Print, b: u8) -> io::Result<()> {
     let t = bits_lookup::table();
-    say::number_line(b"entry", t[b as usize] as u64);
+    say::number_line(rt, b"entry", t[b as usize] as u64)
 }
 
 // Reads a text into two words of 64 ones each. Prints the answer and the words afterwards.
-fn read(text: &[u8]) {
+fn read(rt: &impl Print, text: &[u8]) -> io::Result<()> {
     let mut words = [u64::MAX; 2];
-    read_into(text, &mut words);
+    read_into(rt, text, &mut words)
 }
 
-fn read_into(text: &[u8], words: &mut [u64]) {
-    say::line(text);
+fn read_into(rt: &impl Print, text: &[u8], words: &mut [u64]) -> io::Result<()> {
+    say::line(rt, text)?;
     match text::read_text(text, words) {
-        Read::Bits(n) => say::number_line(b"  bits", n as u64),
-        Read::Refused(k) => say::number_line(b"  refused", row::number(k)),
-    }
-    say_words(words);
+        Read::Bits(n) => say::number_line(rt, b"  bits", n as u64),
+        Read::Refused(k) => say::number_line(rt, b"  refused", row::number(k)),
+    }?;
+    say_words(rt, words)
 }
 
-fn say_word(w: u64) {
-    say::number_line(b"  word", w);
+fn say_word(rt: &impl Print, w: u64) -> io::Result<()> {
+    say::number_line(rt, b"  word", w)
 }
 
-fn say_words(words: &[u64]) {
+fn say_words(rt: &impl Print, words: &[u64]) -> io::Result<()> {
     let mut i = 0;
     while i < words.len() {
-        say_word(words[i]);
+        say_word(rt, words[i])?;
         i += 1;
     }
+    Ok(())
 }
 
-fn tree(word: u64, n: usize) {
+fn tree(rt: &impl Print, word: u64, n: usize) -> io::Result<()> {
     let words = [word; 1];
-    say::number_line(b"bits", n as u64);
+    say::number_line(rt, b"bits", n as u64)?;
     match one_tree::one_tree(&words, n) {
-        Told::Yes => say::line(b"  one tree"),
-        Told::No => say::line(b"  not one tree"),
-        Told::Nothing => say::line(b"  nothing"),
-        Told::Refused(k) => say::number_line(b"  refused", row::number(k)),
+        Told::Yes => say::line(rt, b"  one tree"),
+        Told::No => say::line(rt, b"  not one tree"),
+        Told::Nothing => say::line(rt, b"  nothing"),
+        Told::Refused(k) => say::number_line(rt, b"  refused", row::number(k)),
     }
 }
 
 // Reads texts of 64, 65 and 129 parentheses: a full word, one bit more than a word, and one bit more than the two words have.
-fn long_texts() {
+fn long_texts(rt: &impl Print) -> io::Result<()> {
     let text = [b'('; 129];
     let mut words = [0u64; 2];
-    read_into(&text[..64], &mut words);
-    read_into(&text[..65], &mut words);
-    read_into(&text, &mut words);
+    read_into(rt, &text[..64], &mut words)?;
+    read_into(rt, &text[..65], &mut words)?;
+    read_into(rt, &text, &mut words)
 }
 
-pub fn run() {
-    entry(0);
-    entry(27);
-    entry(255);
-    read(b"(()(()))");
-    read(b"");
-    read(b")");
-    read(b"x()(");
-    read(b"()x(");
-    read(b"()(x");
+pub fn run(rt: &impl Print) -> io::Result<()> {
+    entry(rt, 0)?;
+    entry(rt, 27)?;
+    entry(rt, 255)?;
+    read(rt, b"(()(()))")?;
+    read(rt, b"")?;
+    read(rt, b")")?;
+    read(rt, b"x()(")?;
+    read(rt, b"()x(")?;
+    read(rt, b"()(x")?;
     let mut none = [0u64; 1];
-    read_into(b"()", &mut none[..0]);
-    read_into(b"(*", &mut none[..0]);
-    read_into(b"", &mut none[..0]);
-    long_texts();
-    tree(27, 8);
-    tree(1, 2);
-    tree(1, 1);
-    tree(1, 0);
-    tree(5, 4);
-    tree(9, 4);
-    tree(3, 3);
-    tree(u64::MAX, 64);
-    tree(u64::MAX, 65);
-    tree(0xffffffff, 64);
-    tree(1, 4294967297);
+    read_into(rt, b"()", &mut none[..0])?;
+    read_into(rt, b"(*", &mut none[..0])?;
+    read_into(rt, b"", &mut none[..0])?;
+    long_texts(rt)?;
+    tree(rt, 27, 8)?;
+    tree(rt, 1, 2)?;
+    tree(rt, 1, 1)?;
+    tree(rt, 1, 0)?;
+    tree(rt, 5, 4)?;
+    tree(rt, 9, 4)?;
+    tree(rt, 3, 3)?;
+    tree(rt, u64::MAX, 64)?;
+    tree(rt, u64::MAX, 65)?;
+    tree(rt, 0xffffffff, 64)?;
+    tree(rt, 1, 4294967297)
 }

@@ -1,4 +1,4 @@
-//! `BpTree` and `MinMaxTree` of Cydhra/vers (f9d1329478), compiled from the unchanged files in `docs/src`.
+//! `BpTree` and `MinMaxTree` of Cydhra/vers (f9d1329478), compiled from copies of the unchanged files in `docs/src`.
 //!
 //! `docs/src` has nine files of that repository. This crate adds replacements for the other items that these files name: this
 //! root, `util`, `bit_vec/sparse.rs` and `bit_vec/fast_rs_vec/iter.rs`.
