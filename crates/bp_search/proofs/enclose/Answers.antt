@@ -9,4 +9,4 @@ pub returns : goal.returns
 returns c =
     let a = c.args in
     let f = outward_fits a.words.now a.n a.i in
-    rw (c.out_of_lem.ensures, to_z-of_z w64 _ f) at c.bwd_search.ensures
+    rw (c.out_of.ensures, to_z-of_z w64 _ f) at c.bwd_search.ensures

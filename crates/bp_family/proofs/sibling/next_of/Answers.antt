@@ -29,7 +29,7 @@ inside c =
     (walk_after a.words.now a.n a.nodes.now a.block (omega (arith, s.requires.eight)) a.v (negsuc 0) _ (closes-in-At c)).1
 
 pub handle_after-requires : goal.handle_after-requires
-handle_after-requires c = (c.requires.words, inside c)
+handle_after-requires c = record { n_bound = c.requires.words; c_lt_n = inside c }
 
 pub returns-in-At : goal.returns-in-At
 returns-in-At c = c.handle_after.ensures ∙ next_at _ _ _ _ _ (closes-after-handle_after c)

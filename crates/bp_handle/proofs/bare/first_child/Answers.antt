@@ -22,7 +22,7 @@ passed-in-Pass : (c : goal.In-Pass) → gate-in-Pass c ≡ Pass
 passed-in-Pass c = sym c.admit_handle.ensures ∙ c.in-Pass.is
 
 pub handle_after-requires : goal.handle_after-requires
-handle_after-requires c = bare_facts _ _ _ _ (passed-in-Pass c)
+handle_after-requires c = let f = bare_facts _ _ _ _ (passed-in-Pass c) in record { n_bound = f.0; c_lt_n = f.1 }
 
 pub returns-in-Refuse : goal.returns-in-Refuse
 returns-in-Refuse c =

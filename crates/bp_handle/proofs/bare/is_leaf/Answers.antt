@@ -22,7 +22,7 @@ passed-in-Pass : (c : goal.In-Pass) → gate-in-Pass c ≡ Pass
 passed-in-Pass c = sym c.admit_handle.ensures ∙ c.in-Pass.is
 
 pub leaf_at-requires : goal.leaf_at-requires
-leaf_at-requires c = bare_facts _ _ _ _ (passed-in-Pass c)
+leaf_at-requires c = let f = bare_facts _ _ _ _ (passed-in-Pass c) in record { n_bound = f.0; v_lt_n = f.1 }
 
 pub returns-in-Refuse : goal.returns-in-Refuse
 returns-in-Refuse c =

@@ -124,45 +124,37 @@ climbed-in-Turn c =
     let l = laid-in-Turn c in
     rw (to_z-of_z w64 _ c.ranges.r, l.all, l.first) at c.climb_bwd.ensures
 
-there-after-leaf_bwd : (c : goal.After-leaf_bwd) → (let a = c.args in let k = c.k-1.given.0 in
-    Turned (count a.n a.block) (top a.n a.block) (Turn k.0 k.1.0 k.1.1.0))
+there-after-leaf_bwd : (c : goal.After-leaf_bwd) → (let a = c.args in    Turned (count a.n a.block) (top a.n a.block) (Turn c.in-Turn.k c.in-Turn.h c.in-Turn.p))
 there-after-leaf_bwd c =
     let n = c in
     let s = c in
     let a = s.args in
     let f = s.requires.fine in
-    let k = c.k-1.given.0 in
-    turn_there backward a.words.now a.n a.nodes.now a.block a.b a.r f.eight f.short s.requires.begins s.requires.near k.0 k.1.0 k.1.1.0 (sym (climbed-after-leaf_bwd n) ∙ c.in-Turn.is)
+    turn_there backward a.words.now a.n a.nodes.now a.block a.b a.r f.eight f.short s.requires.begins s.requires.near c.in-Turn.k c.in-Turn.h c.in-Turn.p (sym (climbed-after-leaf_bwd n) ∙ c.in-Turn.is)
 
-there-in-Leaf : (c : goal.In-Leaf) → (let a = c.args in let k = c.k-1.given.0 in
-    Turned (count a.n a.block) (top a.n a.block) (Turn k.0 k.1.0 k.1.1.0))
+there-in-Leaf : (c : goal.In-Leaf) → (let a = c.args in    Turned (count a.n a.block) (top a.n a.block) (Turn c.in-Turn.k c.in-Turn.h c.in-Turn.p))
 there-in-Leaf c =
     let n = c in
     let s = c in
     let a = s.args in
     let f = s.requires.fine in
-    let k = c.k-1.given.0 in
-    turn_there backward a.words.now a.n a.nodes.now a.block a.b a.r f.eight f.short s.requires.begins s.requires.near k.0 k.1.0 k.1.1.0 (sym (climbed-in-Leaf n) ∙ c.in-Turn.is)
+    turn_there backward a.words.now a.n a.nodes.now a.block a.b a.r f.eight f.short s.requires.begins s.requires.near c.in-Turn.k c.in-Turn.h c.in-Turn.p (sym (climbed-in-Leaf n) ∙ c.in-Turn.is)
 
-there-in-Lost : (c : goal.In-Lost) → (let a = c.args in let k = c.k-1.given.0 in
-    Turned (count a.n a.block) (top a.n a.block) (Turn k.0 k.1.0 k.1.1.0))
+there-in-Lost : (c : goal.In-Lost) → (let a = c.args in    Turned (count a.n a.block) (top a.n a.block) (Turn c.in-Turn.k c.in-Turn.h c.in-Turn.p))
 there-in-Lost c =
     let n = c in
     let s = c in
     let a = s.args in
     let f = s.requires.fine in
-    let k = c.k-1.given.0 in
-    turn_there backward a.words.now a.n a.nodes.now a.block a.b a.r f.eight f.short s.requires.begins s.requires.near k.0 k.1.0 k.1.1.0 (sym (climbed-in-Lost n) ∙ c.in-Turn.is)
+    turn_there backward a.words.now a.n a.nodes.now a.block a.b a.r f.eight f.short s.requires.begins s.requires.near c.in-Turn.k c.in-Turn.h c.in-Turn.p (sym (climbed-in-Lost n) ∙ c.in-Turn.is)
 
-there-in-Turn : (c : goal.In-Turn) → (let a = c.args in let k = c.k-1.given.0 in
-    Turned (count a.n a.block) (top a.n a.block) (Turn k.0 k.1.0 k.1.1.0))
+there-in-Turn : (c : goal.In-Turn) → (let a = c.args in    Turned (count a.n a.block) (top a.n a.block) (Turn c.in-Turn.k c.in-Turn.h c.in-Turn.p))
 there-in-Turn c =
     let n = c in
     let s = c in
     let a = s.args in
     let f = s.requires.fine in
-    let k = c.k-1.given.0 in
-    turn_there backward a.words.now a.n a.nodes.now a.block a.b a.r f.eight f.short s.requires.begins s.requires.near k.0 k.1.0 k.1.1.0 (sym (climbed-in-Turn n) ∙ c.in-Turn.is)
+    turn_there backward a.words.now a.n a.nodes.now a.block a.b a.r f.eight f.short s.requires.begins s.requires.near c.in-Turn.k c.in-Turn.h c.in-Turn.p (sym (climbed-in-Turn n) ∙ c.in-Turn.is)
 
 pub descend_bwd-requires : goal.descend_bwd-requires
 descend_bwd-requires c =
@@ -171,33 +163,26 @@ descend_bwd-requires c =
     let t = there-in-Turn e in
     let i = t.0 in
     let o = t.2 in
-    let k = e.k-1.given.0 in
     let f = e.requires.fine in
-    rw (to_z-of_z w64 _ (room_fits k.1.0 k.1.1.0 o)) (omega (arith, f.nodes))
+    rw (to_z-of_z w64 _ (room_fits c.in-Turn.h c.in-Turn.p o)) (omega (arith, f.nodes))
 
 -- ---- the result of the descent, and the block leaf that it reaches
-descended-after-leaf_bwd : (c : goal.After-leaf_bwd) → (let e = c in let a = e.args in let k = e.k-1.given.0 in
-    c.descend_bwd.result ≡ descended_of (descend backward (count a.n a.block) a.nodes.now k.1.0 k.0 k.1.1.0 0))
+descended-after-leaf_bwd : (c : goal.After-leaf_bwd) → (let e = c in let a = e.args in    c.descend_bwd.result ≡ descended_of (descend backward (count a.n a.block) a.nodes.now c.in-Turn.h c.in-Turn.k c.in-Turn.p 0))
 descended-after-leaf_bwd c =
     let e = c in
-    let k = e.k-1.given.0 in
-    rw (to_z-of_z w64 _ (room_fits k.1.0 k.1.1.0 (there-after-leaf_bwd e).2), (laid-after-leaf_bwd e).all) at c.descend_bwd.ensures
+    rw (to_z-of_z w64 _ (room_fits c.in-Turn.h c.in-Turn.p (there-after-leaf_bwd e).2), (laid-after-leaf_bwd e).all) at c.descend_bwd.ensures
 
 -- ---- the result of the descent, and the block leaf that it reaches
-descended-in-Leaf : (c : goal.In-Leaf) → (let e = c in let a = e.args in let k = e.k-1.given.0 in
-    c.descend_bwd.result ≡ descended_of (descend backward (count a.n a.block) a.nodes.now k.1.0 k.0 k.1.1.0 0))
+descended-in-Leaf : (c : goal.In-Leaf) → (let e = c in let a = e.args in    c.descend_bwd.result ≡ descended_of (descend backward (count a.n a.block) a.nodes.now c.in-Turn.h c.in-Turn.k c.in-Turn.p 0))
 descended-in-Leaf c =
     let e = c in
-    let k = e.k-1.given.0 in
-    rw (to_z-of_z w64 _ (room_fits k.1.0 k.1.1.0 (there-in-Leaf e).2), (laid-in-Leaf e).all) at c.descend_bwd.ensures
+    rw (to_z-of_z w64 _ (room_fits c.in-Turn.h c.in-Turn.p (there-in-Leaf e).2), (laid-in-Leaf e).all) at c.descend_bwd.ensures
 
 -- ---- the result of the descent, and the block leaf that it reaches
-descended-in-Lost : (c : goal.In-Lost) → (let e = c in let a = e.args in let k = e.k-1.given.0 in
-    c.descend_bwd.result ≡ descended_of (descend backward (count a.n a.block) a.nodes.now k.1.0 k.0 k.1.1.0 0))
+descended-in-Lost : (c : goal.In-Lost) → (let e = c in let a = e.args in    c.descend_bwd.result ≡ descended_of (descend backward (count a.n a.block) a.nodes.now c.in-Turn.h c.in-Turn.k c.in-Turn.p 0))
 descended-in-Lost c =
     let e = c in
-    let k = e.k-1.given.0 in
-    rw (to_z-of_z w64 _ (room_fits k.1.0 k.1.1.0 (there-in-Lost e).2), (laid-in-Lost e).all) at c.descend_bwd.ensures
+    rw (to_z-of_z w64 _ (room_fits c.in-Turn.h c.in-Turn.p (there-in-Lost e).2), (laid-in-Lost e).all) at c.descend_bwd.ensures
 
 landing-after-leaf_bwd : (c : goal.After-leaf_bwd) → (let a = c.args in
     (inner a.n a.block ≤ c.in-Leaf.j) × (c.in-Leaf.j < count a.n a.block) × Room 0 c.in-Leaf.q)
@@ -208,9 +193,7 @@ landing-after-leaf_bwd c =
     let s = e in
     let a = s.args in
     let f = s.requires.fine in
-    let k = e.k-1.given.0 in
-    let j = c.j-1.given.0 in
-    leaf_there backward a.words.now a.n a.nodes.now a.block a.b a.r f.eight f.short s.requires.begins s.requires.near k.0 k.1.0 k.1.1.0 (sym (climbed-after-leaf_bwd n) ∙ e.in-Turn.is) j.0 j.1.0 (sym (descended-after-leaf_bwd d) ∙ c.in-Leaf.is)
+    leaf_there backward a.words.now a.n a.nodes.now a.block a.b a.r f.eight f.short s.requires.begins s.requires.near c.in-Turn.k c.in-Turn.h c.in-Turn.p (sym (climbed-after-leaf_bwd n) ∙ e.in-Turn.is) c.in-Leaf.j c.in-Leaf.q (sym (descended-after-leaf_bwd d) ∙ c.in-Leaf.is)
 
 landing-in-Leaf : (c : goal.In-Leaf) → (let a = c.args in
     (inner a.n a.block ≤ c.in-Leaf.j) × (c.in-Leaf.j < count a.n a.block) × Room 0 c.in-Leaf.q)
@@ -221,9 +204,7 @@ landing-in-Leaf c =
     let s = e in
     let a = s.args in
     let f = s.requires.fine in
-    let k = e.k-1.given.0 in
-    let j = c.j-1.given.0 in
-    leaf_there backward a.words.now a.n a.nodes.now a.block a.b a.r f.eight f.short s.requires.begins s.requires.near k.0 k.1.0 k.1.1.0 (sym (climbed-in-Leaf n) ∙ e.in-Turn.is) j.0 j.1.0 (sym (descended-in-Leaf d) ∙ c.in-Leaf.is)
+    leaf_there backward a.words.now a.n a.nodes.now a.block a.b a.r f.eight f.short s.requires.begins s.requires.near c.in-Turn.k c.in-Turn.h c.in-Turn.p (sym (climbed-in-Leaf n) ∙ e.in-Turn.is) c.in-Leaf.j c.in-Leaf.q (sym (descended-in-Leaf d) ∙ c.in-Leaf.is)
 
 pub leaf_bwd-requires : goal.leaf_bwd-requires
 leaf_bwd-requires c =
@@ -245,10 +226,8 @@ returns-in-Leaf c =
     let e = g in
     let n = e in
     let a = e.args in
-    let k = e.k-1.given.0 in
-    let j = g.j-1.given.0 in
-    (rw (to_z-of_z w64 _ (room_fits 0 j.1.0 (landing-after-leaf_bwd g).2)) at c.leaf_bwd.ensures)
-    ∙ beyond_leaf backward a.words.now a.n a.nodes.now a.block a.b a.r k.0 k.1.0 k.1.1.0 (sym (climbed-after-leaf_bwd n) ∙ e.in-Turn.is) j.0 j.1.0 (sym (descended-after-leaf_bwd d) ∙ g.in-Leaf.is)
+    (rw (to_z-of_z w64 _ (room_fits 0 c.in-Leaf.q (landing-after-leaf_bwd g).2)) at c.leaf_bwd.ensures)
+    ∙ beyond_leaf backward a.words.now a.n a.nodes.now a.block a.b a.r c.in-Turn.k c.in-Turn.h c.in-Turn.p (sym (climbed-after-leaf_bwd n) ∙ e.in-Turn.is) c.in-Leaf.j c.in-Leaf.q (sym (descended-after-leaf_bwd d) ∙ g.in-Leaf.is)
 
 pub returns-in-Lost : goal.returns-in-Lost
 returns-in-Lost c =
@@ -256,8 +235,7 @@ returns-in-Lost c =
     let e = d in
     let n = e in
     let a = e.args in
-    let k = e.k-1.given.0 in
-    beyond_lost backward a.words.now a.n a.nodes.now a.block a.b a.r k.0 k.1.0 k.1.1.0 (sym (climbed-in-Lost n) ∙ e.in-Turn.is) (sym (descended-in-Lost d) ∙ c.in-Lost.is)
+    beyond_lost backward a.words.now a.n a.nodes.now a.block a.b a.r c.in-Turn.k c.in-Turn.h c.in-Turn.p (sym (climbed-in-Lost n) ∙ e.in-Turn.is) (sym (descended-in-Lost d) ∙ c.in-Lost.is)
 
 pub returns-in-Out : goal.returns-in-Out
 returns-in-Out c =

@@ -6,6 +6,7 @@ use Prim.Native.Nat.{◌-◌, ◌*◌, ◌/◌, ◌≤◌, ◌<◌}
 use native.Mathlib.Omega.{arith}
 use borrow.Author.Tests.{eq-eqb, ne_eqb, le-leb, lt-leb}
 use mir.Syntax.{w64}
+use borrow.Author.Rules.{rules}
 use mir.Val.{to_z, of_z}
 use mir.ValLaws.{to_z-of_z}
 use Rattle.ints.specs.Sides.{size}
@@ -121,7 +122,7 @@ after-edge-after-past_edge_bwd c =
     let s = n in
     let f = s.requires in
     part_on (reading_start _ _ _ _ _) (head_bwd s.args.n s.args.block f.eight f.eights s.args.i (omega arith)) (first-after-past_edge_bwd n)
-    c.in-Left.is (record { sfits = c.known_told-in-Left-1.given.0.1 })
+    c.in-Left.is (search rules)
 
 -- after these bits, the rest of the start block is left to scan
 after-edge-in-Left : (c : goal.In-Left) → (let a = c.args in
@@ -132,7 +133,7 @@ after-edge-in-Left c =
     let s = n in
     let f = s.requires in
     part_on (reading_start _ _ _ _ _) (head_bwd s.args.n s.args.block f.eight f.eights s.args.i (omega arith)) (first-in-Left n)
-    c.in-Left.is (record { sfits = c.known_told-in-Left-1.given.0.1 })
+    c.in-Left.is (search rules)
 
 pub past_edge_bwd-requires : goal.past_edge_bwd-requires
 past_edge_bwd-requires c =

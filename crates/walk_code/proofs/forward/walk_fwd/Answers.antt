@@ -6,6 +6,7 @@ use Prim.Native.Nat.{◌+◌, ◌-◌, ◌*◌, ◌/◌, ◌≤◌, ◌<◌, min
 use native.Mathlib.Omega.{arith}
 use borrow.Author.Tests.{le-leb, lt-leb}
 use mir.Syntax.{w64}
+use borrow.Author.Rules.{rules}
 use mir.Val.{to_z, of_z}
 use mir.ValLaws.{to_z-of_z}
 use Rattle.ints.specs.Sides.{size}
@@ -123,7 +124,7 @@ after-edge-after-past_edge_fwd c =
     let s = e in
     let f = s.requires in
     part_on (reading_start _ _ _ _ _) (head_fwd s.args.n s.args.block f.eight f.eights s.args.i e.if-n-from.false)
-    (first-after-past_edge_fwd n) c.in-Left.is (record { sfits = c.known_told-in-Left-1.given.0.1 })
+    (first-after-past_edge_fwd n) c.in-Left.is (search rules)
 
 -- after these bits, the rest of the start block is left to scan
 after-edge-in-Left : (c : goal.In-Left) → (let a = c.args in
@@ -135,7 +136,7 @@ after-edge-in-Left c =
     let s = e in
     let f = s.requires in
     part_on (reading_start _ _ _ _ _) (head_fwd s.args.n s.args.block f.eight f.eights s.args.i e.if-n-from.false)
-    (first-in-Left n) c.in-Left.is (record { sfits = c.known_told-in-Left-1.given.0.1 })
+    (first-in-Left n) c.in-Left.is (search rules)
 
 pub past_edge_fwd-requires : goal.past_edge_fwd-requires
 past_edge_fwd-requires c =
