@@ -47,6 +47,6 @@ returns c =
     let h : m.result ≤ 64 = omega (arith, m.ensures) in
     let g = ap (text_gate a.text.now) (length-take-le _ _ h ∙ m.ensures) ∙ sym (short a.text.now _ f.if-text-gt-MAX_SHORT_BITS.false) in
     record {
-      answer = to_z-of_z w64 _ (record { sfits = r.type-inv }) ∙ r.ensures.answer ∙ ap (λ x. wire_of (through x (at (length a.text.now)))) g;
+      answer = to_z-of_z w64 _ (record { sfits = r.type_inv }) ∙ r.ensures.answer ∙ ap (λ x. wire_of (through x (at (length a.text.now)))) g;
       slice = r.ensures.slice ∙ ap (λ x. left_row x a.text.now a.row.now) g;
     }

@@ -65,11 +65,11 @@ fits-in-Bits : (c : goal.In-Bits)
     (c.in-Bits.n ≤ max_bits) × (words_for c.in-Bits.n ≤ length a.words.now)
 fits-in-Bits c = let p = passed-in-Bits c in rw p.1 (text_fits _ _ p.0)
 
-enough-after-words_for : (c : goal.After-words_for) → let n = c in c.words_for.result ≤ length n.read_text.new.1.0
-enough-after-words_for c = let n = c in omega (arith, (fits-after-words_for n).1, c.words_for.ensures, n.read_text.auto.1.0)
+enough-after-words_for : (c : goal.After-words_for) → let n = c in c.words_for.result ≤ length n.read_text.new.words
+enough-after-words_for c = let n = c in omega (arith, (fits-after-words_for n).1, c.words_for.ensures, n.read_text.auto.words)
 
-enough-after-write_words-arg-1 : (c : goal.After-write_words-arg-1) → let n = c in c.words_for.result ≤ length n.read_text.new.1.0
-enough-after-write_words-arg-1 c = let n = c in omega (arith, (fits-after-write_words-arg-1 n).1, c.words_for.ensures, n.read_text.auto.1.0)
+enough-after-write_words-arg-1 : (c : goal.After-write_words-arg-1) → let n = c in c.words_for.result ≤ length n.read_text.new.words
+enough-after-write_words-arg-1 c = let n = c in omega (arith, (fits-after-write_words-arg-1 n).1, c.words_for.ensures, n.read_text.auto.words)
 
 pub words_for-requires : goal.words_for-requires
 words_for-requires c = (fits-in-Bits c).0
@@ -84,7 +84,7 @@ pub write_words-requires : goal.write_words-requires
 write_words-requires c =
     let e = c in
     let b = e in
-    rw (length-take-le _ _ (enough-after-write_words-arg-1 e)) (omega (arith, enough-after-write_words-arg-1 e, b.read_text.kept.1.0, b.requires))
+    rw (length-take-le _ _ (enough-after-write_words-arg-1 e)) (omega (arith, enough-after-write_words-arg-1 e, b.read_text.auto.words, b.requires))
 
 pub overflow_cast-result : goal.overflow_cast-result
 overflow_cast-result c =

@@ -123,7 +123,7 @@ returns-in-PreviousSibling c =
 pub returns-in-IsLeaf : goal.returns-in-IsLeaf
 returns-in-IsLeaf c =
     answered (promised _ _ _ _) c.in-IsLeaf.is (record { sfits = c.told.type_inv }) c.told.ensures
-    c.is_IsLeaf.ensures
+    c.is_leaf.ensures
 
 pub returns-in-IsAncestor : goal.returns-in-IsAncestor
 returns-in-IsAncestor c =
