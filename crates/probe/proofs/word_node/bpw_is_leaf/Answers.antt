@@ -4,4 +4,4 @@ use Rattle.c_dispatch.proofs.Small.{crossed}
 use Rattle.probe.proofs.word_node.bpw_is_leaf.Goals as goal
 
 pub returns : goal.returns
-returns c = crossed (record { sfits = c.told.type_inv }) c.told.ensures c.is_IsLeaf.ensures
+returns c = crossed (record { sfits = c.told.type_inv }) c.told.ensures c.is_leaf.ensures
