@@ -58,16 +58,16 @@ passed-in-Done : (c : goal.In-Done) → gate-in-Done c ≡ Pass
 passed-in-Done c = built_passed _ (sym (ap paper_built c.in-Done.is) ∙ c.build.ensures.answer)
 
 -- In this arm the array has at least as many numbers as are written.
-enough-after-node_numbers : (c : goal.After-node_numbers) → c.node_numbers.result ≤ length c.build.new.1.1.0
+enough-after-node_numbers : (c : goal.After-node_numbers) → c.node_numbers.result ≤ length c.build.new.nodes
 enough-after-node_numbers c =
     let f = gate_fine _ _ _ _ (passed-after-node_numbers c) in
-    omega (arith, c.node_numbers.ensures, f.nodes, c.build.auto.1.1.0)
+    omega (arith, c.node_numbers.ensures, f.nodes, c.build.auto.nodes)
 
 -- In this arm the array has at least as many numbers as are written.
-enough-after-write_numbers-arg-1 : (c : goal.After-write_numbers-arg-1) → c.node_numbers.result ≤ length c.build.new.1.1.0
+enough-after-write_numbers-arg-1 : (c : goal.After-write_numbers-arg-1) → c.node_numbers.result ≤ length c.build.new.nodes
 enough-after-write_numbers-arg-1 c =
     let f = gate_fine _ _ _ _ (passed-after-write_numbers-arg-1 c) in
-    omega (arith, c.node_numbers.ensures, f.nodes, c.build.auto.1.1.0)
+    omega (arith, c.node_numbers.ensures, f.nodes, c.build.auto.nodes)
 
 pub node_numbers-requires : goal.node_numbers-requires
 node_numbers-requires c = let f = gate_fine _ _ _ _ (passed-in-Done c) in (f.short, f.eight, f.small)
@@ -82,7 +82,7 @@ pub write_numbers-requires : goal.write_numbers-requires
 write_numbers-requires c =
     let e = c in
     let b = e in
-    rw (length-take-le _ _ (enough-after-write_numbers-arg-1 e)) (omega (arith, enough-after-write_numbers-arg-1 e, b.build.kept.1.1.0, b.requires))
+    rw (length-take-le _ _ (enough-after-write_numbers-arg-1 e)) (omega (arith, enough-after-write_numbers-arg-1 e, b.build.auto.nodes, b.requires))
 
 pub returns-in-Refused : goal.returns-in-Refused
 returns-in-Refused c =
