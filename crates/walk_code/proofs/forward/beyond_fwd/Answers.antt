@@ -124,7 +124,7 @@ climbed-in-Turn c =
     let l = laid-in-Turn c in
     rw (to_z-of_z w64 _ c.ranges.r, l.all, l.first) at c.climb_fwd.ensures
 
-there-after-leaf_fwd : (c : goal.After-leaf_fwd) → (let a = c.args in    Turned (count a.n a.block) (top a.n a.block) (Turn c.in-Turn.k c.in-Turn.h c.in-Turn.p))
+there-after-leaf_fwd : (c : goal.After-leaf_fwd) → (let a = c.args in Turned (count a.n a.block) (top a.n a.block) (Turn c.in-Turn.k c.in-Turn.h c.in-Turn.p))
 there-after-leaf_fwd c =
     let n = c in
     let s = c in
@@ -132,7 +132,7 @@ there-after-leaf_fwd c =
     let f = s.requires.fine in
     turn_there forward a.words.now a.n a.nodes.now a.block a.b a.r f.eight f.short s.requires.begins s.requires.near c.in-Turn.k c.in-Turn.h c.in-Turn.p (sym (climbed-after-leaf_fwd n) ∙ c.in-Turn.is)
 
-there-in-Leaf : (c : goal.In-Leaf) → (let a = c.args in    Turned (count a.n a.block) (top a.n a.block) (Turn c.in-Turn.k c.in-Turn.h c.in-Turn.p))
+there-in-Leaf : (c : goal.In-Leaf) → (let a = c.args in Turned (count a.n a.block) (top a.n a.block) (Turn c.in-Turn.k c.in-Turn.h c.in-Turn.p))
 there-in-Leaf c =
     let n = c in
     let s = c in
@@ -140,7 +140,7 @@ there-in-Leaf c =
     let f = s.requires.fine in
     turn_there forward a.words.now a.n a.nodes.now a.block a.b a.r f.eight f.short s.requires.begins s.requires.near c.in-Turn.k c.in-Turn.h c.in-Turn.p (sym (climbed-in-Leaf n) ∙ c.in-Turn.is)
 
-there-in-Lost : (c : goal.In-Lost) → (let a = c.args in    Turned (count a.n a.block) (top a.n a.block) (Turn c.in-Turn.k c.in-Turn.h c.in-Turn.p))
+there-in-Lost : (c : goal.In-Lost) → (let a = c.args in Turned (count a.n a.block) (top a.n a.block) (Turn c.in-Turn.k c.in-Turn.h c.in-Turn.p))
 there-in-Lost c =
     let n = c in
     let s = c in
@@ -148,7 +148,7 @@ there-in-Lost c =
     let f = s.requires.fine in
     turn_there forward a.words.now a.n a.nodes.now a.block a.b a.r f.eight f.short s.requires.begins s.requires.near c.in-Turn.k c.in-Turn.h c.in-Turn.p (sym (climbed-in-Lost n) ∙ c.in-Turn.is)
 
-there-in-Turn : (c : goal.In-Turn) → (let a = c.args in    Turned (count a.n a.block) (top a.n a.block) (Turn c.in-Turn.k c.in-Turn.h c.in-Turn.p))
+there-in-Turn : (c : goal.In-Turn) → (let a = c.args in Turned (count a.n a.block) (top a.n a.block) (Turn c.in-Turn.k c.in-Turn.h c.in-Turn.p))
 there-in-Turn c =
     let n = c in
     let s = c in
@@ -167,19 +167,19 @@ descend_fwd-requires c =
     rw (to_z-of_z w64 _ (room_fits c.in-Turn.h c.in-Turn.p o)) (omega (arith, f.nodes))
 
 -- ---- the result of the descent, and the block leaf that it reaches
-descended-after-leaf_fwd : (c : goal.After-leaf_fwd) → (let e = c in let a = e.args in    c.descend_fwd.result ≡ descended_of (descend forward (count a.n a.block) a.nodes.now c.in-Turn.h c.in-Turn.k c.in-Turn.p 0))
+descended-after-leaf_fwd : (c : goal.After-leaf_fwd) → (let e = c in let a = e.args in c.descend_fwd.result ≡ descended_of (descend forward (count a.n a.block) a.nodes.now c.in-Turn.h c.in-Turn.k c.in-Turn.p 0))
 descended-after-leaf_fwd c =
     let e = c in
     rw (to_z-of_z w64 _ (room_fits c.in-Turn.h c.in-Turn.p (there-after-leaf_fwd e).2), (laid-after-leaf_fwd e).all) at c.descend_fwd.ensures
 
 -- ---- the result of the descent, and the block leaf that it reaches
-descended-in-Leaf : (c : goal.In-Leaf) → (let e = c in let a = e.args in    c.descend_fwd.result ≡ descended_of (descend forward (count a.n a.block) a.nodes.now c.in-Turn.h c.in-Turn.k c.in-Turn.p 0))
+descended-in-Leaf : (c : goal.In-Leaf) → (let e = c in let a = e.args in c.descend_fwd.result ≡ descended_of (descend forward (count a.n a.block) a.nodes.now c.in-Turn.h c.in-Turn.k c.in-Turn.p 0))
 descended-in-Leaf c =
     let e = c in
     rw (to_z-of_z w64 _ (room_fits c.in-Turn.h c.in-Turn.p (there-in-Leaf e).2), (laid-in-Leaf e).all) at c.descend_fwd.ensures
 
 -- ---- the result of the descent, and the block leaf that it reaches
-descended-in-Lost : (c : goal.In-Lost) → (let e = c in let a = e.args in    c.descend_fwd.result ≡ descended_of (descend forward (count a.n a.block) a.nodes.now c.in-Turn.h c.in-Turn.k c.in-Turn.p 0))
+descended-in-Lost : (c : goal.In-Lost) → (let e = c in let a = e.args in c.descend_fwd.result ≡ descended_of (descend forward (count a.n a.block) a.nodes.now c.in-Turn.h c.in-Turn.k c.in-Turn.p 0))
 descended-in-Lost c =
     let e = c in
     rw (to_z-of_z w64 _ (room_fits c.in-Turn.h c.in-Turn.p (there-in-Lost e).2), (laid-in-Lost e).all) at c.descend_fwd.ensures
