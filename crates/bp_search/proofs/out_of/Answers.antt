@@ -11,9 +11,6 @@ returns-then-n-i c = outward_past _ _ _ c.if-n-i.true
 pub returns-then-words-i : goal.returns-then-words-i
 returns-then-words-i c = outward_short _ _ _ c.if-words-i.true
 
-pub opens_at-requires : goal.opens_at-requires
-opens_at-requires c = omega arith
-
 pub returns-then-opens_at : goal.returns-then-opens_at
 returns-then-opens_at c = outward_open _ _ _ (omega arith) (sym c.opens_at.ensures ∙ c.if-opens_at.true)
 

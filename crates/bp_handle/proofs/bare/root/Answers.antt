@@ -15,9 +15,6 @@ passed-else-n-gt0 c = sym c.admit_row.ensures ∙ c.in-Pass.is
 passed-then-n-gt0 : (c : goal.Then-n-gt0) → let a = c.args in row_gate (length a.words.now) a.n ≡ Pass
 passed-then-n-gt0 c = sym c.admit_row.ensures ∙ c.in-Pass.is
 
-pub returns-in-Refuse : goal.returns-in-Refuse
-returns-in-Refuse c = let e = sym c.admit_row.ensures ∙ c.in-Refuse.is in rw e
-
 pub returns-then-n-gt0 : goal.returns-then-n-gt0
 returns-then-n-gt0 c = rw (passed-then-n-gt0 c) (root_some _ c.if-n-gt0.true)
 

@@ -3,7 +3,7 @@
 use mathlib.Core.Path.{◌∙◌}
 use Prim.Native.Nat.{◌≤◌}
 use native.Mathlib.Omega.{arith}
-use Rattle.bp_level.proofs.NodeLevels.{on_at, on_nothing, on_refused, told_far, told_near, level_fits, level_read}
+use Rattle.bp_level.proofs.NodeLevels.{on_at, on_nothing, on_refused, told_far, told_near, level_read}
 use Rattle.bp_level.proofs.LevelEnds.{rightmost_far, rightmost_walk}
 use Rattle.bp_spec.proofs.RightmostStart.{root_there}
 use Rattle.bp_level.proofs.ends.rightmost_at.Goals as goal
@@ -11,10 +11,6 @@ use Rattle.bp_level.proofs.ends.rightmost_at.Goals as goal
 -- In this branch k is at most n.
 near-after-open_before : (c : goal.After-open_before) → (let a = c.args in a.k ≤ a.n)
 near-after-open_before c = told_near c.too_far.ensures c.if-too_far.false
-
--- In this branch k is at most n.
-near-in-At : (c : goal.In-At) → (let a = c.args in a.k ≤ a.n)
-near-in-At c = told_near c.too_far.ensures c.if-too_far.false
 
 -- In this branch k is at most n.
 near-in-Nothing : (c : goal.In-Nothing) → (let a = c.args in a.k ≤ a.n)
@@ -32,9 +28,6 @@ root_start-requires c =
     let s = c in
     let f = s.requires in
     record { short = f.short; root = λ h. omega (arith, f.nodes, root_there s.args.n s.args.block (omega (arith, f.eight)) h) }
-
-pub overflow_cast-k : goal.overflow_cast-k
-overflow_cast-k c = let e = c in level_fits _ _ e.requires.short (near-in-At e)
 
 pub returns-in-At : goal.returns-in-At
 returns-in-At c =

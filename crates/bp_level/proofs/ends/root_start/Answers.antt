@@ -1,7 +1,6 @@
 -- `bp_level::root_start` examines the root and answers n + total - 1 if that is a position of the row.
 -- The proof has three cases: no bits, a root in range, a root out of range. Assumes nothing.
 use mathlib.Core.Path.{◌∙◌}
-use native.Mathlib.Omega.{arith}
 use Rattle.bits_stretch.specs.declared.summary.Summary.{Summary}
 use Rattle.mmt_node.specs.Nodes.{node_at}
 use Rattle.walk_examine.specs.declared.ask.Examined.TheVariants.{Fit}
@@ -25,9 +24,6 @@ look-after-struct_told-1 c = looked (root-after-struct_told-1 c) c.examine.ensur
 
 pub returns-then-n-eq0 : goal.returns-then-n-eq0
 returns-then-n-eq0 c = start_none _ _ c.if-n-eq0.true
-
-pub examine-requires : goal.examine-requires
-examine-requires c = let z = c.if-n-eq0.false in c.requires.root (omega arith)
 
 pub start_by-requires : goal.start_by-requires
 start_by-requires c =

@@ -1,7 +1,7 @@
 -- `c_dispatch::read_text` refuses a text of more than 4,096 bytes; otherwise it reads the text into an array and writes the words as bytes.
 -- The proof has one case for the limit and one for `read_through`. Assumes nothing.
 use mathlib.Core.Path.{sym, ap, ◌∙◌}
-use Prim.Native.Nat.{◌*◌, ◌≤◌}
+use Prim.Native.Nat.{◌≤◌}
 use native.Mathlib.Omega.{arith}
 use lib.ListN.{length}
 use lib.Seq.{length-take-le}
@@ -23,19 +23,6 @@ returns-then-text-gt-MAX_SHORT_BITS c =
       answer = to_z-of_z w64 _ (record { sfits = c.refused.type_inv }) ∙ c.refused.ensures ∙ ap (λ x. wire_of (through x (at (length a.text.now)))) g;
       slice = ap (λ x. left_row x a.text.now a.row.now) g;
     }
-
-pub slice_bounds-read_through-end : goal.slice_bounds-read_through-end
-slice_bounds-read_through-end c =
-    let h : c.fitting-w.result ≤ 64 = omega (arith, c.fitting-w.ensures) in
-    sym (length-take-le _ _ h)
-
-pub read_through-requires : goal.read_through-requires
-read_through-requires c =
-    let f = c in
-    let m = f.fitting-w in
-    let h : m.result ≤ 64 = omega (arith, m.ensures) in
-    let e : 8 * m.result ≤ length f.args.row.now = omega (arith, m.ensures) in
-    rw (length-take-le _ _ h) e
 
 pub returns : goal.returns
 returns c =

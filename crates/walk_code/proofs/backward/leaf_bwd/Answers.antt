@@ -1,16 +1,10 @@
 -- `walk_code::backward::leaf_bwd` scans the target block, which ends at n at the latest. A hit is the answer; without one it is refusal 8.
 -- Assumes nothing.
-use mathlib.Core.Path.{◌≡◌, sym, ◌∙◌}
-use Prim.Native.Nat.{◌-◌, ◌*◌, ◌<◌, min}
+use Prim.Native.Nat.{◌-◌, ◌*◌, ◌<◌}
 use native.Mathlib.Omega.{arith}
 use mir.Syntax.{w64}
 use mir.ValLaws.{to_z-of_z}
-use Rattle.row.specs.Bits.{bit_at}
-use Rattle.row.specs.Way.{backward}
-use Rattle.bits_stretch.specs.Scan.{scan}
-use Rattle.mmt_layout.specs.Layout.{inner}
 use Rattle.mmt_layout.proofs.Places.{leaf_in}
-use Rattle.walk_code.proofs.Answers.{leaf_hit, leaf_left}
 use Rattle.walk_code.proofs.backward.leaf_bwd.Goals as goal
 
 -- the block begins before n
@@ -44,35 +38,3 @@ bwd_search_block-requires c =
       bits = record { order = omega arith; inside = omega (arith, f.words); short = omega (arith, f.short) };
       room = rw (to_z-of_z w64 _ s.ranges.r) (omega arith);
     }
-
--- the result of the scan
-read-in-Hit : (c : goal.In-Hit) → (let a = c.args in
-    c.bwd_search_block.result ≡ scan backward (bit_at a.words.now) (min a.block (a.n - (a.k - inner a.n a.block) * a.block)) ((a.k - inner a.n a.block) * a.block) a.r)
-read-in-Hit c =
-    let s = c in
-    let a = s.args in
-    let from = (a.k - a.first) * a.block in
-    let e : c.earlier.result - from ≡ min a.block (a.n - from) = omega (arith, c.earlier.ensures) in
-    rw (to_z-of_z w64 _ s.ranges.r, e, s.requires.first_is) at c.bwd_search_block.ensures
-
--- the result of the scan
-read-in-Left : (c : goal.In-Left) → (let a = c.args in
-    c.bwd_search_block.result ≡ scan backward (bit_at a.words.now) (min a.block (a.n - (a.k - inner a.n a.block) * a.block)) ((a.k - inner a.n a.block) * a.block) a.r)
-read-in-Left c =
-    let s = c in
-    let a = s.args in
-    let from = (a.k - a.first) * a.block in
-    let e : c.earlier.result - from ≡ min a.block (a.n - from) = omega (arith, c.earlier.ensures) in
-    rw (to_z-of_z w64 _ s.ranges.r, e, s.requires.first_is) at c.bwd_search_block.ensures
-
-pub returns-in-Hit : goal.returns-in-Hit
-returns-in-Hit c =
-    let n = c in
-    let a = n.args in
-    leaf_hit backward a.words.now a.n a.nodes.now a.block a.k a.r c.in-Hit.j (sym (read-in-Hit n) ∙ c.in-Hit.is)
-
-pub returns-in-Left : goal.returns-in-Left
-returns-in-Left c =
-    let n = c in
-    let a = n.args in
-    leaf_left backward a.words.now a.n a.nodes.now a.block a.k a.r c.in-Left.field-0 (sym (read-in-Left n) ∙ c.in-Left.is)

@@ -18,7 +18,7 @@ use Rattle.mmt_layout.proofs.Powers.{leaves_in}
 use Rattle.walk_spec.specs.Walk.{ends_at_once}
 use Rattle.walk_spec.proofs.Right.{high, start_in}
 use Rattle.walk_code.proofs.Edges.{edge_bwd_in, head_bwd}
-use Rattle.walk_code.proofs.Answers.{less_fits, far_over, far_under, far_neither, walk_end, walk_far, walk_starts}
+use Rattle.walk_code.proofs.Answers.{far_over, far_under, far_neither, walk_end, walk_far, walk_starts}
 use Rattle.walk_code.proofs.backward.walk_bwd.Goals as goal
 
 -- the walk does not end at once
@@ -40,12 +40,6 @@ ended-then-r-most c = let a = c.args in rw (ne_eqb a.i 0 c.if-i-eq0.false, lt-le
 -- |r| is at most n
 near-after-past_edge_bwd : (c : goal.After-past_edge_bwd) → (let a = c.args in size a.r ≤ a.n)
 near-after-past_edge_bwd c =
-    let s = c in
-    far_neither s.args.n s.requires.short s.args.r s.ranges.r c.if-most-r.false c.if-r-most.false
-
--- |r| is at most n
-near-else-r-most : (c : goal.Else-r-most) → (let a = c.args in size a.r ≤ a.n)
-near-else-r-most c =
     let s = c in
     far_neither s.args.n s.requires.short s.args.r s.ranges.r c.if-most-r.false c.if-r-most.false
 
@@ -78,25 +72,12 @@ returns-then-most-r c =
     walk_far backward a.words.now a.n a.nodes.now a.block a.i a.r (ended-then-most-r c)
     (far_over a.n s.requires.short a.r s.ranges.r c.if-most-r.true)
 
-pub overflow_sub-most : goal.overflow_sub-most
-overflow_sub-most c = let s = c in less_fits s.args.n s.requires.short
-
 pub returns-then-r-most : goal.returns-then-r-most
 returns-then-r-most c =
     let s = c in
     let a = s.args in
     walk_far backward a.words.now a.n a.nodes.now a.block a.i a.r (ended-then-r-most c)
     (far_under a.n s.requires.short a.r s.ranges.r c.if-r-most.true)
-
-pub edge_bwd-requires : goal.edge_bwd-requires
-edge_bwd-requires c =
-    let s = c in
-    let f = s.requires in
-    let z = near-else-r-most c in
-    record {
-      bits = record { order = omega arith; inside = omega (arith, f.words); one = omega arith; short = omega (arith, f.short) };
-      room = rw (to_z-of_z w64 _ s.ranges.r) (omega (arith, f.short));
-    }
 
 -- the result of the scan of the bits from the edge on
 first-after-past_edge_bwd : (c : goal.After-past_edge_bwd) → (let a = c.args in

@@ -15,7 +15,7 @@ use Rattle.walk_climb.specs.declared.path.Climbed.TheVariants.{Turn}
 use Rattle.walk_climb.specs.Climbed.{climbed_of}
 use Rattle.walk_climb.proofs.Climbs.{Turned}
 use Rattle.walk_descend.specs.Descended.{descended_of}
-use Rattle.walk_code.proofs.Answers.{Laid, laid_out, start_room, turn_there, leaf_there, beyond_out, beyond_misfit, beyond_lost, beyond_leaf}
+use Rattle.walk_code.proofs.Answers.{Laid, laid_out, start_room, turn_there, leaf_there, beyond_lost, beyond_leaf}
 use Rattle.walk_code.proofs.forward.beyond_fwd.Goals as goal
 
 -- ---- the layout, and where the climb starts
@@ -47,31 +47,11 @@ laid-in-Lost c =
     laid_out s.args.n s.args.block s.args.b f.eight f.short s.requires.begins c.layout_of-lay.result c.layout_of-lay.ensures
 
 -- ---- the layout, and where the climb starts
-laid-in-Misfit : (c : goal.In-Misfit) → (let a = c.args in Laid a.n a.block a.b c.layout_of-lay.result)
-laid-in-Misfit c =
-    let s = c in
-    let f = s.requires.fine in
-    laid_out s.args.n s.args.block s.args.b f.eight f.short s.requires.begins c.layout_of-lay.result c.layout_of-lay.ensures
-
--- ---- the layout, and where the climb starts
-laid-in-Out : (c : goal.In-Out) → (let a = c.args in Laid a.n a.block a.b c.layout_of-lay.result)
-laid-in-Out c =
-    let s = c in
-    let f = s.requires.fine in
-    laid_out s.args.n s.args.block s.args.b f.eight f.short s.requires.begins c.layout_of-lay.result c.layout_of-lay.ensures
-
--- ---- the layout, and where the climb starts
 laid-in-Turn : (c : goal.In-Turn) → (let a = c.args in Laid a.n a.block a.b c.layout_of-lay.result)
 laid-in-Turn c =
     let s = c in
     let f = s.requires.fine in
     laid_out s.args.n s.args.block s.args.b f.eight f.short s.requires.begins c.layout_of-lay.result c.layout_of-lay.ensures
-
-pub overflow_add-all : goal.overflow_add-all
-overflow_add-all c = let l = laid-after-struct_known-1 c in omega arith
-
-pub overflow_add-first : goal.overflow_add-first
-overflow_add-first c = let l = laid-after-struct_known-1 c in omega arith
 
 pub climb_fwd-requires : goal.climb_fwd-requires
 climb_fwd-requires c =
@@ -101,20 +81,6 @@ climbed-in-Lost : (c : goal.In-Lost) → (let a = c.args in
     c.climb_fwd.result ≡ climbed_of (climb forward (count a.n a.block) a.nodes.now (inner a.n a.block + a.b) 0 (inner a.n a.block + a.b) a.r 0))
 climbed-in-Lost c =
     let l = laid-in-Lost c in
-    rw (to_z-of_z w64 _ c.ranges.r, l.all, l.first) at c.climb_fwd.ensures
-
--- ---- the result of the climb, and the node that it turns to
-climbed-in-Misfit : (c : goal.In-Misfit) → (let a = c.args in
-    c.climb_fwd.result ≡ climbed_of (climb forward (count a.n a.block) a.nodes.now (inner a.n a.block + a.b) 0 (inner a.n a.block + a.b) a.r 0))
-climbed-in-Misfit c =
-    let l = laid-in-Misfit c in
-    rw (to_z-of_z w64 _ c.ranges.r, l.all, l.first) at c.climb_fwd.ensures
-
--- ---- the result of the climb, and the node that it turns to
-climbed-in-Out : (c : goal.In-Out) → (let a = c.args in
-    c.climb_fwd.result ≡ climbed_of (climb forward (count a.n a.block) a.nodes.now (inner a.n a.block + a.b) 0 (inner a.n a.block + a.b) a.r 0))
-climbed-in-Out c =
-    let l = laid-in-Out c in
     rw (to_z-of_z w64 _ c.ranges.r, l.all, l.first) at c.climb_fwd.ensures
 
 -- ---- the result of the climb, and the node that it turns to
@@ -236,15 +202,3 @@ returns-in-Lost c =
     let n = e in
     let a = e.args in
     beyond_lost forward a.words.now a.n a.nodes.now a.block a.b a.r c.in-Turn.k c.in-Turn.h c.in-Turn.p (sym (climbed-in-Lost n) ∙ e.in-Turn.is) (sym (descended-in-Lost d) ∙ c.in-Lost.is)
-
-pub returns-in-Out : goal.returns-in-Out
-returns-in-Out c =
-    let n = c in
-    let a = n.args in
-    beyond_out forward a.words.now a.n a.nodes.now a.block a.b a.r (sym (climbed-in-Out n) ∙ c.in-Out.is)
-
-pub returns-in-Misfit : goal.returns-in-Misfit
-returns-in-Misfit c =
-    let n = c in
-    let a = n.args in
-    beyond_misfit forward a.words.now a.n a.nodes.now a.block a.b a.r (sym (climbed-in-Misfit n) ∙ c.in-Misfit.is)

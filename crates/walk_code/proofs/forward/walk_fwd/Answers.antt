@@ -18,7 +18,7 @@ use Rattle.mmt_layout.proofs.Powers.{leaves_in}
 use Rattle.walk_spec.specs.Walk.{ends_at_once}
 use Rattle.walk_spec.proofs.Right.{low, start_in}
 use Rattle.walk_code.proofs.Edges.{edge_fwd_in, head_fwd}
-use Rattle.walk_code.proofs.Answers.{less_fits, far_over, far_under, far_neither, walk_end, walk_far, walk_starts}
+use Rattle.walk_code.proofs.Answers.{far_over, far_under, far_neither, walk_end, walk_far, walk_starts}
 use Rattle.walk_code.proofs.forward.walk_fwd.Goals as goal
 
 -- the walk does not end at once
@@ -36,12 +36,6 @@ ended-then-most-r c = let a = c.args in lt-leb a.n (a.i + 1) c.if-n-from.false
 -- the walk does not end at once
 ended-then-r-most : (c : goal.Then-r-most) → ends_at_once forward c.args.n c.args.i ≡ false
 ended-then-r-most c = let a = c.args in lt-leb a.n (a.i + 1) c.if-n-from.false
-
--- |r| is at most n
-near-after-earlier-edge : (c : goal.After-earlier-edge) → (let a = c.args in size a.r ≤ a.n)
-near-after-earlier-edge c =
-    let s = c in
-    far_neither s.args.n s.requires.short s.args.r s.ranges.r c.if-most-r.false c.if-r-most.false
 
 -- |r| is at most n
 near-after-past_edge_fwd : (c : goal.After-past_edge_fwd) → (let a = c.args in size a.r ≤ a.n)
@@ -78,26 +72,12 @@ returns-then-most-r c =
     walk_far forward a.words.now a.n a.nodes.now a.block a.i a.r (ended-then-most-r c)
     (far_over a.n s.requires.short a.r s.ranges.r c.if-most-r.true)
 
-pub overflow_sub-most : goal.overflow_sub-most
-overflow_sub-most c = let s = c in less_fits s.args.n s.requires.short
-
 pub returns-then-r-most : goal.returns-then-r-most
 returns-then-r-most c =
     let s = c in
     let a = s.args in
     walk_far forward a.words.now a.n a.nodes.now a.block a.i a.r (ended-then-r-most c)
     (far_under a.n s.requires.short a.r s.ranges.r c.if-r-most.true)
-
-pub edge_fwd-requires : goal.edge_fwd-requires
-edge_fwd-requires c =
-    let s = c in
-    let f = s.requires in
-    let o = c.earlier-edge.ensures in
-    let z = near-after-earlier-edge c in
-    record {
-      bits = record { order = omega arith; inside = omega (arith, f.words); one = omega arith; short = omega (arith, f.short) };
-      room = rw (to_z-of_z w64 _ s.ranges.r) (omega (arith, f.short));
-    }
 
 -- the result of the scan of the bits before the edge
 first-after-past_edge_fwd : (c : goal.After-past_edge_fwd) → (let a = c.args in
