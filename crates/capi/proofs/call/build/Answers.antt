@@ -30,12 +30,6 @@ gate-after-slice_known-in-Done-1 c =
     nodes_gate (length a.words.now) a.n (length a.numbers.now) a.block
 
 -- The tests of the build.
-abbrev gate-after-write_numbers-arg-1 : goal.After-write_numbers-arg-1 → Gate
-gate-after-write_numbers-arg-1 c =
-    let a = c.args in
-    nodes_gate (length a.words.now) a.n (length a.numbers.now) a.block
-
--- The tests of the build.
 abbrev gate-in-Done : goal.In-Done → Gate
 gate-in-Done c =
     let a = c.args in
@@ -50,10 +44,6 @@ passed-after-slice_known-in-Done-1 : (c : goal.After-slice_known-in-Done-1) → 
 passed-after-slice_known-in-Done-1 c = built_passed _ (sym (ap paper_built c.in-Done.is) ∙ c.build.ensures.answer)
 
 -- The tests passed in the arm that writes.
-passed-after-write_numbers-arg-1 : (c : goal.After-write_numbers-arg-1) → gate-after-write_numbers-arg-1 c ≡ Pass
-passed-after-write_numbers-arg-1 c = built_passed _ (sym (ap paper_built c.in-Done.is) ∙ c.build.ensures.answer)
-
--- The tests passed in the arm that writes.
 passed-in-Done : (c : goal.In-Done) → gate-in-Done c ≡ Pass
 passed-in-Done c = built_passed _ (sym (ap paper_built c.in-Done.is) ∙ c.build.ensures.answer)
 
@@ -61,12 +51,6 @@ passed-in-Done c = built_passed _ (sym (ap paper_built c.in-Done.is) ∙ c.build
 enough-after-node_numbers : (c : goal.After-node_numbers) → c.node_numbers.result ≤ length c.build.new.nodes
 enough-after-node_numbers c =
     let f = gate_fine _ _ _ _ (passed-after-node_numbers c) in
-    omega (arith, c.node_numbers.ensures, f.nodes, c.build.auto.nodes)
-
--- In this arm the array has at least as many numbers as are written.
-enough-after-write_numbers-arg-1 : (c : goal.After-write_numbers-arg-1) → c.node_numbers.result ≤ length c.build.new.nodes
-enough-after-write_numbers-arg-1 c =
-    let f = gate_fine _ _ _ _ (passed-after-write_numbers-arg-1 c) in
     omega (arith, c.node_numbers.ensures, f.nodes, c.build.auto.nodes)
 
 pub node_numbers-requires : goal.node_numbers-requires
@@ -77,12 +61,6 @@ slice_bounds-write_numbers-end c = enough-after-node_numbers c
 
 pub slice_bounds-write_numbers-end-in-Done : goal.slice_bounds-write_numbers-end-in-Done
 slice_bounds-write_numbers-end-in-Done c = sym (length-take-le _ _ (enough-after-node_numbers c))
-
-pub write_numbers-requires : goal.write_numbers-requires
-write_numbers-requires c =
-    let e = c in
-    let b = e in
-    rw (length-take-le _ _ (enough-after-write_numbers-arg-1 e)) (omega (arith, enough-after-write_numbers-arg-1 e, b.build.auto.nodes, b.requires))
 
 pub returns-in-Refused : goal.returns-in-Refused
 returns-in-Refused c =

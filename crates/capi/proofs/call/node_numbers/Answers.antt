@@ -13,6 +13,3 @@ pub overflow_mul-result : goal.overflow_mul-result
 overflow_mul-result c =
     let s = c in
     rw c.layout_of-all.ensures (omega (arith, count_small s.args.n s.args.block (omega arith) (omega arith)))
-
-pub returns : goal.returns
-returns c = rw c.layout_of-all.ensures
