@@ -6,12 +6,13 @@
 --   beyond_lost, beyond_leaf: the answer if the descent is refused, and if it reaches a block leaf
 --   start_room: the remainder has room for the climb
 --   turn_there, leaf_there: the node that the climb turns to and the block leaf reached exist, and the remainder has room there
+--   laid, turn_at, leaf_at, lost_answer, leaf_answer: the same, given what the contracts of the calls say
 --   walk_end, walk_far: the walk answers nothing because of its position, or because |r| > n
 --   walk_starts: any other walk scans its start block
 --   less_fits: -n fits into an i64
 --   far_over, far_under, far_neither: the two comparisons of r with n and with -n decide whether |r| > n
 -- Assumes nothing.
-use mathlib.Core.Path.{◌≡◌, refl, ap, ◌∙◌}
+use mathlib.Core.Path.{◌≡◌, refl, sym, ap, ◌∙◌}
 use mathlib.Core.Bool.{Bool, true, false}
 use mathlib.Core.List.{List}
 use Prim.Native.Nat.{ℕ, ◌+◌, ◌-◌, ◌*◌, ◌≤◌, ◌<◌, min}
@@ -43,12 +44,16 @@ use Rattle.mmt_node.proofs.Covered.{top}
 use Rattle.walk_spec.specs.Walk.{Climb, turn, out, misfit, climb, Descent, leaf, lost, descend, ends_at_once, start_block, start_scan, in_leaf, land, beyond, in_start, walk}
 use Rattle.walk_spec.proofs.Stretches.{block_place}
 use Rattle.walk_examine.specs.Asked.{Room}
+use Rattle.walk_examine.proofs.Asks.{room_fits}
+use Rattle.walk_climb.specs.declared.path.Climbed.{Climbed}
 use Rattle.walk_climb.specs.declared.path.Climbed.TheVariants.{Turn, Out, Misfit as MisfitClimbed}
 use Rattle.walk_climb.specs.Climbed.{climbed_of}
 use Rattle.walk_climb.proofs.Climbs.{Turned, turned}
+use Rattle.walk_descend.specs.declared.path.Descended.{Descended}
 use Rattle.walk_descend.specs.declared.path.Descended.TheVariants.{Leaf, Lost}
 use Rattle.walk_descend.specs.Descended.{descended_of}
 use Rattle.walk_descend.proofs.Descends.{descend_count, Landed, landed}
+use Rattle.walk_code.specs.WalkParts.{StartPassed}
 
 -- ---- a climb or a descent, given its result without the count of examined nodes
 turn_is : (x : Climb) (k h : ℕ) (r : ℤ) → climbed_of x ≡ Turn k h r → (c : ℕ) × (x ≡ turn k h r c)
@@ -170,6 +175,32 @@ module _ (w : Way) (ws : List ℕ) (n : ℕ) (s : List ℤ) (B : ℕ) where
         pub walk_starts : {x : Scanned} → x ≡ start_scan w ws n B i r → (in_start w ws n s B (start_block w B i) x).answer ≡ (walk w ws n s B i r).answer
         unfolding walk
         walk_starts x = rw (e, le-ltb n (size r) f, x)
+
+-- ---- the calls of `beyond_bwd` and `beyond_fwd`, in the words of their contracts: the layout x, the climb z, the descent y
+module _ (w : Way) (ws : List ℕ) (n : ℕ) (s : List ℤ) (B b : ℕ) (r : ℤ) {t : List ℕ} {o m : ℕ} (p : StartPassed t o n m B b r) (v : SFits w64 r) (x : Layout) (e : x ≡ layout_of n B) where
+  pub laid : Laid n B b x
+  laid = laid_out n B b p.fine.eight p.fine.short p.begins x e
+
+  module _ {z : Climbed} (f : z ≡ climbed_of (climb w (x.inner + x.leaves) s (x.inner + b) 0 (x.inner + b) (to_z w64 (of_z w64 r)) 0)) (k h : ℕ) (q : ℤ) (g : z ≡ Turn k h q) where
+    climbed : climbed_of (climbing w ws n s B b r) ≡ Turn k h q
+    climbed = sym (rw (to_z-of_z w64 r v, laid.all, laid.first) at f) ∙ g
+
+    pub turn_at : Turned (count n B) (top n B) (Turn k h q)
+    turn_at = turn_there w ws n s B b r p.fine.eight p.fine.short p.begins p.near k h q climbed
+
+    module _ {y : Descended} (d : y ≡ descended_of (descend w (x.inner + x.leaves) s h k (to_z w64 (of_z w64 q)) 0)) where
+      landing : y ≡ descended_of (descend w (count n B) s h k q 0)
+      landing = rw (to_z-of_z w64 q (room_fits h q turn_at.2), laid.all) at d
+
+      pub lost_answer : y ≡ Lost → refused 8 ≡ (beyond w ws n s B b r).answer
+      lost_answer l = beyond_lost w ws n s B b r k h q climbed (sym landing ∙ l)
+
+      module _ (j : ℕ) (u : ℤ) (l : y ≡ Leaf j u) where
+        pub leaf_at : (inner n B ≤ j) × (j < count n B) × Room 0 u
+        leaf_at = leaf_there w ws n s B b r p.fine.eight p.fine.short p.begins p.near k h q climbed j u (sym landing ∙ l)
+
+        pub leaf_answer : (land w ws n s B (leaf j (to_z w64 (of_z w64 u)) 0)).answer ≡ (beyond w ws n s B b r).answer
+        leaf_answer = rw (to_z-of_z w64 u (room_fits 0 u leaf_at.2)) (beyond_leaf w ws n s B b r k h q climbed j u (sym landing ∙ l))
 
 -- ---- the test whether |r| > n
 size_in : (n : ℕ) (r : ℤ) → up r ≤ n + dn r → dn r ≤ n + up r → size r ≤ n

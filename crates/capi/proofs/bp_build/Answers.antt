@@ -19,19 +19,16 @@ use Rattle.capi.proofs.bp_build.Goals as goal
 pub returns : goal.returns
 returns c =
     -- The states of the code after the build, after the bit count and after the room, in reverse order.
-    let b = c in
-    let n = b in
-    let f = n in
-    let a = f.args in
-    let w = f.take_words-w.ensures in
-    let m = f.fitting-m in
+    let a = c.args in
+    let w = c.take_words-w.ensures in
+    let m = c.fitting-m in
     let h : m.result ≤ number_room = omega (arith, m.ensures) in
-    let e = b.build.ensures in
+    let e = c.build.ensures in
     let p = w.slice ∙ ap (words_in a.row.now) w.answer in
-    let q = n.bits.ensures in
+    let q = c.bits.ensures in
     let r = decoded_few _ m.result _ (λ j. number_at a.nodes.now (8 * j)) h m.ensures in
     record {
-      answer = to_z-of_z w64 _ (record { sfits = b.build.type_inv }) ∙ e.answer
-          ∙ same (λ ws n t. wire_of (through (nodes_gate (length ws) n t a.block) (at 0))) p q r;
-      slice = e.slice ∙ same (λ ws n t. left_bytes ws n t a.block a.nodes.now) p q r;
+      answer = to_z-of_z w64 _ (record { sfits = c.build.type_inv }) ∙ e.answer
+          ∙ same (λ ws c t. wire_of (through (nodes_gate (length ws) c t a.block) (at 0))) p q r;
+      slice = e.slice ∙ same (λ ws c t. left_bytes ws c t a.block a.nodes.now) p q r;
     }

@@ -6,9 +6,7 @@ use Rattle.bp_family.proofs.Ancestors.{ancestor_at, ancestor_nothing, ancestor_r
 use Rattle.bp_family.proofs.ancestor.spans.Goals as goal
 
 pub returns-in-At : goal.returns-in-At
-returns-in-At c =
-    let e = c in
-    c.within.ensures ∙ ancestor_at _ _ _ _ _ _ (said e.walk_fwd.ensures e.in-At.is)
+returns-in-At c = c.within.ensures ∙ ancestor_at _ _ _ _ _ _ (said c.walk_fwd.ensures c.in-At.is)
 
 pub returns-in-Nothing : goal.returns-in-Nothing
 returns-in-Nothing c = ancestor_nothing _ _ _ _ _ (said c.walk_fwd.ensures c.in-Nothing.is)

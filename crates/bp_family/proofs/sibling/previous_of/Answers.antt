@@ -14,6 +14,5 @@ returns-then-opens_at c = previous_none _ _ _ _ (omega arith) (closes_not _ _ _ 
 
 pub returns : goal.returns
 returns c =
-    let e = c in
     c.walk_bwd.ensures
-    ∙ previous_at _ _ _ _ (omega arith) (closes_in _ _ _ (omega arith) (sym e.opens_at.ensures ∙ e.if-opens_at.false))
+    ∙ previous_at _ _ _ _ (omega arith) (closes_in _ _ _ (omega arith) (sym c.opens_at.ensures ∙ c.if-opens_at.false))

@@ -1,15 +1,10 @@
 -- `bp_level::leftmost_at` answers the first outline node of level k.
 -- The proof has four cases: no bits, level 0, a level above n, the walk. Assumes nothing.
 use mathlib.Core.Path.{◌∙◌}
-use Prim.Native.Nat.{◌≤◌}
 use native.Mathlib.Omega.{arith}
 use Rattle.bp_level.proofs.NodeLevels.{told_far, told_near, level_read}
 use Rattle.bp_level.proofs.LevelEnds.{leftmost_none, leftmost_root, leftmost_far, leftmost_walk}
 use Rattle.bp_level.proofs.ends.leftmost_at.Goals as goal
-
--- In the branch that walks, k is at most n.
-near-after-walk_fwd : (c : goal.After-walk_fwd) → (let a = c.args in a.k ≤ a.n)
-near-after-walk_fwd c = told_near c.too_far.ensures c.if-too_far.false
 
 pub returns-then-n-eq0 : goal.returns-then-n-eq0
 returns-then-n-eq0 c = leftmost_none _ _ _ _ _ c.if-n-eq0.true
@@ -22,5 +17,4 @@ returns-then-too_far c = leftmost_far _ _ _ _ _ c.if-k-eq0.false (told_far c.too
 
 pub returns : goal.returns
 returns c =
-    let e = c in
-    (rw (level_read _ _ e.requires.short (near-after-walk_fwd c)) at c.walk_fwd.ensures) ∙ leftmost_walk _ _ _ _ _ e.if-k-eq0.false
+    (rw (level_read _ _ c.requires.short (told_near c.too_far.ensures c.if-too_far.false)) at c.walk_fwd.ensures) ∙ leftmost_walk _ _ _ _ _ c.if-k-eq0.false

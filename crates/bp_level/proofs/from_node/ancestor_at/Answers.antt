@@ -1,13 +1,8 @@
 -- `bp_level::ancestor_at` answers the ancestor k levels above v.
 -- The proof has three cases: k is 0, k is above n, the walk. Assumes nothing.
 use mathlib.Core.Path.{◌∙◌}
-use Prim.Native.Nat.{◌≤◌}
 use Rattle.bp_level.proofs.NodeLevels.{told_far, told_near, less_read, ancestor_self, ancestor_far, ancestor_up}
 use Rattle.bp_level.proofs.from_node.ancestor_at.Goals as goal
-
--- In the branch that walks, k is at most n.
-near-after-walk_bwd : (c : goal.After-walk_bwd) → (let a = c.args in a.k ≤ a.n)
-near-after-walk_bwd c = told_near c.too_far.ensures c.if-too_far.false
 
 pub returns-then-k-eq0 : goal.returns-then-k-eq0
 returns-then-k-eq0 c = ancestor_self _ _ _ _ _ _ c.if-k-eq0.true
@@ -17,5 +12,4 @@ returns-then-too_far c = ancestor_far _ _ _ _ _ _ c.if-k-eq0.false (told_far c.t
 
 pub returns : goal.returns
 returns c =
-    let e = c in
-    (rw (less_read _ _ e.requires.short (near-after-walk_bwd e)) at c.walk_bwd.ensures) ∙ ancestor_up _ _ _ _ _ _ e.if-k-eq0.false
+    (rw (less_read _ _ c.requires.short (told_near c.too_far.ensures c.if-too_far.false)) at c.walk_bwd.ensures) ∙ ancestor_up _ _ _ _ _ _ c.if-k-eq0.false

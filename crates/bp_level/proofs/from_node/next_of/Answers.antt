@@ -5,14 +5,10 @@ use Rattle.bp_level.proofs.NodeLevels.{on_at, on_nothing, on_refused, next_is}
 use Rattle.bp_level.proofs.from_node.next_of.Goals as goal
 
 pub returns-in-At : goal.returns-in-At
-returns-in-At c =
-    let g = c in
-    on_at _ _ _ g.walk_fwd.ensures _ _ g.in-At.is c.walk_fwd-in-At.ensures ∙ sym (next_is _ _ _ _)
+returns-in-At c = on_at _ _ _ c.walk_fwd.ensures _ _ c.in-At.is c.walk_fwd-in-At.ensures ∙ sym (next_is _ _ _ _)
 
 pub returns-in-Nothing : goal.returns-in-Nothing
 returns-in-Nothing c = on_nothing _ _ _ c.walk_fwd.ensures c.in-Nothing.is ∙ sym (next_is _ _ _ _)
 
 pub returns-in-Refused : goal.returns-in-Refused
-returns-in-Refused c =
-    let g = c in
-    on_refused _ _ _ g.walk_fwd.ensures g.in-Refused.e g.in-Refused.is ∙ sym (next_is _ _ _ _)
+returns-in-Refused c = on_refused _ _ _ c.walk_fwd.ensures c.in-Refused.e c.in-Refused.is ∙ sym (next_is _ _ _ _)

@@ -26,13 +26,11 @@ returns-then-text-gt-MAX_SHORT_BITS c =
 
 pub returns : goal.returns
 returns c =
-    let t = c in
-    let f = t in
-    let a = f.args in
-    let r = t.read_through in
-    let m = f.fitting-w in
+    let a = c.args in
+    let r = c.read_through in
+    let m = c.fitting-w in
     let h : m.result ≤ 64 = omega (arith, m.ensures) in
-    let g = ap (text_gate a.text.now) (length-take-le _ _ h ∙ m.ensures) ∙ sym (short a.text.now _ f.if-text-gt-MAX_SHORT_BITS.false) in
+    let g = ap (text_gate a.text.now) (length-take-le _ _ h ∙ m.ensures) ∙ sym (short a.text.now _ c.if-text-gt-MAX_SHORT_BITS.false) in
     record {
       answer = to_z-of_z w64 _ (record { sfits = r.type_inv }) ∙ r.ensures.answer ∙ ap (λ x. wire_of (through x (at (length a.text.now)))) g;
       slice = r.ensures.slice ∙ ap (λ x. left_row x a.text.now a.row.now) g;

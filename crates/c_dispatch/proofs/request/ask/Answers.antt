@@ -21,16 +21,13 @@ pub found-requires-in-Enclose : goal.found-requires-in-Enclose
 found-requires-in-Enclose c = small_as c.enclose.ensures.answer (answer_small _ _ _ _ (Enclose _))
 
 pub found-requires-in-Root : goal.found-requires-in-Root
-found-requires-in-Root c =
-    small_as c.root.ensures (answer_small c.args.words.now _ [] 0 Root)
+found-requires-in-Root c = small_as c.root.ensures (answer_small c.args.words.now _ [] 0 Root)
 
 pub found-requires-in-Parent : goal.found-requires-in-Parent
 found-requires-in-Parent c = small_as c.parent.ensures.answer (answer_small _ _ _ _ (Parent _))
 
 pub found-requires-in-FirstChild : goal.found-requires-in-FirstChild
-found-requires-in-FirstChild c =
-    let q = c in
-    small_as c.first_child.ensures (answer_small q.args.words.now _ [] 0 (FirstChild _))
+found-requires-in-FirstChild c = small_as c.first_child.ensures (answer_small c.args.words.now _ [] 0 (FirstChild _))
 
 pub found-requires-in-LastChild : goal.found-requires-in-LastChild
 found-requires-in-LastChild c = small_as c.last_child.ensures.answer (answer_small _ _ _ _ (LastChild _))

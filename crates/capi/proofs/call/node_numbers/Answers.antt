@@ -5,11 +5,7 @@ use Rattle.mmt_layout.proofs.Admitted.{count_small}
 use Rattle.capi.proofs.call.node_numbers.Goals as goal
 
 pub overflow_add-result : goal.overflow_add-result
-overflow_add-result c =
-    let s = c in
-    rw c.layout_of-all.ensures (omega (arith, count_small s.args.n s.args.block (omega arith) (omega arith)))
+overflow_add-result c = rw c.layout_of-all.ensures (omega (arith, count_small c.args.n c.args.block (omega arith) (omega arith)))
 
 pub overflow_mul-result : goal.overflow_mul-result
-overflow_mul-result c =
-    let s = c in
-    rw c.layout_of-all.ensures (omega (arith, count_small s.args.n s.args.block (omega arith) (omega arith)))
+overflow_mul-result c = rw c.layout_of-all.ensures (omega (arith, count_small c.args.n c.args.block (omega arith) (omega arith)))

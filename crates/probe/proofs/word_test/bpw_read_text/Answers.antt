@@ -5,6 +5,5 @@ use Rattle.probe.proofs.word_test.bpw_read_text.Goals as goal
 
 pub read-requires : goal.read-requires
 read-requires c =
-    let t = c in
-    let a = t.args in
-    small_as t.read_text.ensures.answer (read_small a.text.now a.words.now)
+    let a = c.args in
+    small_as c.read_text.ensures.answer (read_small a.text.now a.words.now)

@@ -2,14 +2,13 @@
 -- |r| > n, a hit in the bits up to a byte boundary (the edge), and the answer of the walk beyond it. Assumes nothing.
 use mathlib.Core.Path.{◌≡◌, ◌∙◌}
 use mathlib.Core.Bool.{false}
-use Prim.Native.Nat.{◌-◌, ◌*◌, ◌/◌, ◌≤◌, ◌<◌}
+use Prim.Native.Nat.{◌-◌, ◌*◌, ◌/◌, ◌<◌}
 use native.Mathlib.Omega.{arith}
 use borrow.Author.Tests.{eq-eqb, ne_eqb, le-leb, lt-leb}
 use mir.Syntax.{w64}
 use borrow.Author.Rules.{rules}
 use mir.Val.{to_z, of_z}
 use mir.ValLaws.{to_z-of_z}
-use Rattle.ints.specs.Sides.{size}
 use Rattle.row.specs.Bits.{bit_at}
 use Rattle.row.specs.Way.{backward}
 use Rattle.bits_stretch.specs.Scan.{scan}
@@ -37,24 +36,6 @@ ended-then-most-r c = let a = c.args in rw (ne_eqb a.i 0 c.if-i-eq0.false, lt-le
 ended-then-r-most : (c : goal.Then-r-most) → ends_at_once backward c.args.n c.args.i ≡ false
 ended-then-r-most c = let a = c.args in rw (ne_eqb a.i 0 c.if-i-eq0.false, lt-leb a.n a.i c.if-n-i.false)
 
--- |r| is at most n
-near-after-past_edge_bwd : (c : goal.After-past_edge_bwd) → (let a = c.args in size a.r ≤ a.n)
-near-after-past_edge_bwd c =
-    let s = c in
-    far_neither s.args.n s.requires.short s.args.r s.ranges.r c.if-most-r.false c.if-r-most.false
-
--- |r| is at most n
-near-in-Hit : (c : goal.In-Hit) → (let a = c.args in size a.r ≤ a.n)
-near-in-Hit c =
-    let s = c in
-    far_neither s.args.n s.requires.short s.args.r s.ranges.r c.if-most-r.false c.if-r-most.false
-
--- |r| is at most n
-near-in-Left : (c : goal.In-Left) → (let a = c.args in size a.r ≤ a.n)
-near-in-Left c =
-    let s = c in
-    far_neither s.args.n s.requires.short s.args.r s.ranges.r c.if-most-r.false c.if-r-most.false
-
 pub returns-then-i-eq0 : goal.returns-then-i-eq0
 returns-then-i-eq0 c =
     let a = c.args in
@@ -67,42 +48,23 @@ returns-then-n-i c =
 
 pub returns-then-most-r : goal.returns-then-most-r
 returns-then-most-r c =
-    let s = c in
-    let a = s.args in
+    let a = c.args in
     walk_far backward a.words.now a.n a.nodes.now a.block a.i a.r (ended-then-most-r c)
-    (far_over a.n s.requires.short a.r s.ranges.r c.if-most-r.true)
+    (far_over a.n c.requires.short a.r c.ranges.r c.if-most-r.true)
 
 pub returns-then-r-most : goal.returns-then-r-most
 returns-then-r-most c =
-    let s = c in
-    let a = s.args in
+    let a = c.args in
     walk_far backward a.words.now a.n a.nodes.now a.block a.i a.r (ended-then-r-most c)
-    (far_under a.n s.requires.short a.r s.ranges.r c.if-r-most.true)
-
--- the result of the scan of the bits from the edge on
-first-after-past_edge_bwd : (c : goal.After-past_edge_bwd) → (let a = c.args in
-    c.edge_bwd.result ≡ scan backward (bit_at a.words.now) (a.i - a.i / 8 * 8) (a.i / 8 * 8) a.r)
-first-after-past_edge_bwd c = rw (to_z-of_z w64 _ c.ranges.r) at c.edge_bwd.ensures
-
--- the result of the scan of the bits from the edge on
-first-in-Hit : (c : goal.In-Hit) → (let a = c.args in
-    c.edge_bwd.result ≡ scan backward (bit_at a.words.now) (a.i - a.i / 8 * 8) (a.i / 8 * 8) a.r)
-first-in-Hit c = rw (to_z-of_z w64 _ c.ranges.r) at c.edge_bwd.ensures
-
--- the result of the scan of the bits from the edge on
-first-in-Left : (c : goal.In-Left) → (let a = c.args in
-    c.edge_bwd.result ≡ scan backward (bit_at a.words.now) (a.i - a.i / 8 * 8) (a.i / 8 * 8) a.r)
-first-in-Left c = rw (to_z-of_z w64 _ c.ranges.r) at c.edge_bwd.ensures
+    (far_under a.n c.requires.short a.r c.ranges.r c.if-r-most.true)
 
 -- after these bits, the rest of the start block is left to scan
 after-edge-after-past_edge_bwd : (c : goal.After-past_edge_bwd) → (let a = c.args in
     let edge = a.i / 8 * 8 in let from = (a.i - 1) / a.block * a.block in
     Reading backward (bit_at a.words.now) (a.i - from) from a.r (edge - from) from (to_z w64 (of_z w64 c.in-Left.q)))
 after-edge-after-past_edge_bwd c =
-    let n = c in
-    let s = n in
-    let f = s.requires in
-    part_on (reading_start _ _ _ _ _) (head_bwd s.args.n s.args.block f.eight f.eights s.args.i (omega arith)) (first-after-past_edge_bwd n)
+    let f = c.requires in
+    part_on (reading_start _ _ _ _ _) (head_bwd c.args.n c.args.block f.eight f.eights c.args.i (omega arith)) (rw (to_z-of_z w64 _ c.ranges.r) at c.edge_bwd.ensures)
     c.in-Left.is (search rules)
 
 -- after these bits, the rest of the start block is left to scan
@@ -110,22 +72,18 @@ after-edge-in-Left : (c : goal.In-Left) → (let a = c.args in
     let edge = a.i / 8 * 8 in let from = (a.i - 1) / a.block * a.block in
     Reading backward (bit_at a.words.now) (a.i - from) from a.r (edge - from) from (to_z w64 (of_z w64 c.in-Left.q)))
 after-edge-in-Left c =
-    let n = c in
-    let s = n in
-    let f = s.requires in
-    part_on (reading_start _ _ _ _ _) (head_bwd s.args.n s.args.block f.eight f.eights s.args.i (omega arith)) (first-in-Left n)
+    let f = c.requires in
+    part_on (reading_start _ _ _ _ _) (head_bwd c.args.n c.args.block f.eight f.eights c.args.i (omega arith)) (rw (to_z-of_z w64 _ c.ranges.r) at c.edge_bwd.ensures)
     c.in-Left.is (search rules)
 
 pub past_edge_bwd-requires : goal.past_edge_bwd-requires
 past_edge_bwd-requires c =
-    let e = c in
-    let s = e in
-    let a = s.args in
-    let f = s.requires in
+    let a = c.args in
+    let f = c.requires in
     let p : 0 < a.block = omega (arith, f.eight) in
     let l : 0 < a.i = omega arith in
     let k = (after-edge-in-Left c).near in
-    let z = near-in-Left e in
+    let z = (far_neither c.args.n c.requires.short c.args.r c.ranges.r c.if-most-r.false c.if-r-most.false) in
     let h = high a.n a.block p (a.i - 1) in
     record {
       fine = f;
@@ -137,18 +95,14 @@ past_edge_bwd-requires c =
 
 pub returns-in-Hit : goal.returns-in-Hit
 returns-in-Hit c =
-    let n = c in
-    let e = n in
-    let s = e in
-    let a = s.args in
-    let f = s.requires in
-    walk_starts backward a.words.now a.n a.nodes.now a.block a.i a.r (ended-in-Hit e) (near-in-Hit e)
-    (part_hit (reading_start _ _ _ _ _) (head_bwd a.n a.block f.eight f.eights a.i (omega arith)) (first-in-Hit n) c.in-Hit.is)
+    let a = c.args in
+    let f = c.requires in
+    walk_starts backward a.words.now a.n a.nodes.now a.block a.i a.r (ended-in-Hit c) (far_neither c.args.n c.requires.short c.args.r c.ranges.r c.if-most-r.false c.if-r-most.false)
+    (part_hit (reading_start _ _ _ _ _) (head_bwd a.n a.block f.eight f.eights a.i (omega arith)) (rw (to_z-of_z w64 _ c.ranges.r) at c.edge_bwd.ensures) c.in-Hit.is)
 
 pub returns-in-Left : goal.returns-in-Left
 returns-in-Left c =
-    let e = c in
-    let a = e.args in
+    let a = c.args in
     c.past_edge_bwd.ensures
-    ∙ walk_starts backward a.words.now a.n a.nodes.now a.block a.i a.r (ended-after-past_edge_bwd e) (near-after-past_edge_bwd e)
+    ∙ walk_starts backward a.words.now a.n a.nodes.now a.block a.i a.r (ended-after-past_edge_bwd c) (far_neither c.args.n c.requires.short c.args.r c.ranges.r c.if-most-r.false c.if-r-most.false)
     (after-edge-after-past_edge_bwd c).same

@@ -29,12 +29,11 @@ overflow_add-from c = omega (arith, begins-after-shared_slice_known-1 c, c.requi
 
 pub fwd_search_block-requires : goal.fwd_search_block-requires
 fwd_search_block-requires c =
-    let s = c in
-    let f = s.requires.fine in
-    let b = begins-after-earlier s in
+    let f = c.requires.fine in
+    let b = begins-after-earlier c in
     let e = c.earlier.ensures in
     record {
-      table = s.requires.table;
+      table = c.requires.table;
       bits = record { order = omega arith; inside = omega (arith, f.words); short = omega (arith, f.short) };
-      room = rw (to_z-of_z w64 _ s.ranges.r) (omega arith);
+      room = rw (to_z-of_z w64 _ c.ranges.r) (omega arith);
     }

@@ -1,10 +1,9 @@
 -- `walk_code::forward::past_edge_fwd` scans the rest of the start block. A hit is the answer; without one the walk goes on with the remainder
 -- that is left. Assumes nothing.
-use mathlib.Core.Path.{◌≡◌, sym, ◌∙◌}
+use mathlib.Core.Path.{sym, ◌∙◌}
 use Prim.Native.Nat.{◌+◌, ◌-◌, ◌*◌, ◌≤◌, min}
 use native.Mathlib.Omega.{arith}
 use mir.Syntax.{w64}
-use mir.Val.{SFits}
 use mir.ValLaws.{to_z-of_z}
 use Rattle.row.specs.Limits.{max_bits}
 use Rattle.mmt_layout.specs.Layout.{max_block}
@@ -16,28 +15,15 @@ use Rattle.bits_stretch.specs.Scan.{scan}
 use Rattle.bits_stretch.proofs.Parts.{scan_size}
 use Rattle.walk_code.proofs.forward.past_edge_fwd.Goals as goal
 
--- the result of the scan
-read-after-t-in-Left-1 : (c : goal.After-t-in-Left-1) → (let a = c.args in
-    c.fwd_search_block.result ≡ scan forward (bit_at a.words.now) (min a.n ((a.b + 1) * a.block) - a.edge) a.edge a.r)
-read-after-t-in-Left-1 c = rw (to_z-of_z w64 _ c.ranges.r, c.earlier.ensures) at c.fwd_search_block.ensures
-
 -- the size of the remainder that the scan leaves
-left-after-t-in-Left-1 : (c : goal.After-t-in-Left-1) → size c.in-Left.q ≤ (max_bits + max_block)
-left-after-t-in-Left-1 c =
-    let n = c in
-    let s = n in
-    let a = s.args in
+left : (c : goal.After-t-in-Left-1) → size c.in-Left.q ≤ (max_bits + max_block)
+left c =
+    let a = c.args in
     let z = scan_size forward (bit_at a.words.now) (min a.n ((a.b + 1) * a.block) - a.edge) a.edge a.r c.in-Left.q
-    (sym (read-after-t-in-Left-1 n) ∙ c.in-Left.is) in
-    omega (arith, s.requires.near)
-
-fits-after-t-in-Left-1 : (c : goal.After-t-in-Left-1) → SFits w64 c.in-Left.q
-fits-after-t-in-Left-1 c = omega (zsum, left-after-t-in-Left-1 c)
+    (sym (rw (to_z-of_z w64 _ c.ranges.r, c.earlier.ensures) at c.fwd_search_block.ensures) ∙ c.in-Left.is) in
+    omega (arith, c.requires.near)
 
 pub beyond_fwd-requires : goal.beyond_fwd-requires
 beyond_fwd-requires c =
-    let g = c in
-    let t = g in
-    let s = t in
-    rw (to_z-of_z w64 _ (fits-after-t-in-Left-1 g))
-    (record { table = t.table-t.ensures; fine = s.requires.fine; begins = s.requires.begins; near = left-after-t-in-Left-1 g })
+    rw (to_z-of_z w64 c.in-Left.q (omega (zsum, left c)))
+    (record { table = c.table-t.ensures; fine = c.requires.fine; begins = c.requires.begins; near = left c })

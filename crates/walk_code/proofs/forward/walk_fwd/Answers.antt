@@ -2,14 +2,13 @@
 -- |r| > n, a hit in the bits up to a byte boundary (the edge), and the answer of the walk beyond it. Assumes nothing.
 use mathlib.Core.Path.{◌≡◌, ◌∙◌}
 use mathlib.Core.Bool.{false}
-use Prim.Native.Nat.{◌+◌, ◌-◌, ◌*◌, ◌/◌, ◌≤◌, ◌<◌, min}
+use Prim.Native.Nat.{◌+◌, ◌-◌, ◌*◌, ◌/◌, ◌<◌, min}
 use native.Mathlib.Omega.{arith}
 use borrow.Author.Tests.{le-leb, lt-leb}
 use mir.Syntax.{w64}
 use borrow.Author.Rules.{rules}
 use mir.Val.{to_z, of_z}
 use mir.ValLaws.{to_z-of_z}
-use Rattle.ints.specs.Sides.{size}
 use Rattle.row.specs.Bits.{bit_at}
 use Rattle.row.specs.Way.{forward}
 use Rattle.bits_stretch.specs.Scan.{scan}
@@ -37,24 +36,6 @@ ended-then-most-r c = let a = c.args in lt-leb a.n (a.i + 1) c.if-n-from.false
 ended-then-r-most : (c : goal.Then-r-most) → ends_at_once forward c.args.n c.args.i ≡ false
 ended-then-r-most c = let a = c.args in lt-leb a.n (a.i + 1) c.if-n-from.false
 
--- |r| is at most n
-near-after-past_edge_fwd : (c : goal.After-past_edge_fwd) → (let a = c.args in size a.r ≤ a.n)
-near-after-past_edge_fwd c =
-    let s = c in
-    far_neither s.args.n s.requires.short s.args.r s.ranges.r c.if-most-r.false c.if-r-most.false
-
--- |r| is at most n
-near-in-Hit : (c : goal.In-Hit) → (let a = c.args in size a.r ≤ a.n)
-near-in-Hit c =
-    let s = c in
-    far_neither s.args.n s.requires.short s.args.r s.ranges.r c.if-most-r.false c.if-r-most.false
-
--- |r| is at most n
-near-in-Left : (c : goal.In-Left) → (let a = c.args in size a.r ≤ a.n)
-near-in-Left c =
-    let s = c in
-    far_neither s.args.n s.requires.short s.args.r s.ranges.r c.if-most-r.false c.if-r-most.false
-
 pub returns-then-n-i : goal.returns-then-n-i
 returns-then-n-i c =
     let a = c.args in
@@ -67,72 +48,46 @@ returns-then-n-from c =
 
 pub returns-then-most-r : goal.returns-then-most-r
 returns-then-most-r c =
-    let s = c in
-    let a = s.args in
+    let a = c.args in
     walk_far forward a.words.now a.n a.nodes.now a.block a.i a.r (ended-then-most-r c)
-    (far_over a.n s.requires.short a.r s.ranges.r c.if-most-r.true)
+    (far_over a.n c.requires.short a.r c.ranges.r c.if-most-r.true)
 
 pub returns-then-r-most : goal.returns-then-r-most
 returns-then-r-most c =
-    let s = c in
-    let a = s.args in
+    let a = c.args in
     walk_far forward a.words.now a.n a.nodes.now a.block a.i a.r (ended-then-r-most c)
-    (far_under a.n s.requires.short a.r s.ranges.r c.if-r-most.true)
-
--- the result of the scan of the bits before the edge
-first-after-past_edge_fwd : (c : goal.After-past_edge_fwd) → (let a = c.args in
-    c.edge_fwd.result ≡ scan forward (bit_at a.words.now) (min a.n ((a.i + 1 + 7) / 8 * 8) - (a.i + 1)) (a.i + 1) a.r)
-first-after-past_edge_fwd c = rw (to_z-of_z w64 _ c.ranges.r, c.earlier-edge.ensures) at c.edge_fwd.ensures
-
--- the result of the scan of the bits before the edge
-first-in-Hit : (c : goal.In-Hit) → (let a = c.args in
-    c.edge_fwd.result ≡ scan forward (bit_at a.words.now) (min a.n ((a.i + 1 + 7) / 8 * 8) - (a.i + 1)) (a.i + 1) a.r)
-first-in-Hit c = rw (to_z-of_z w64 _ c.ranges.r, c.earlier-edge.ensures) at c.edge_fwd.ensures
-
--- the result of the scan of the bits before the edge
-first-in-Left : (c : goal.In-Left) → (let a = c.args in
-    c.edge_fwd.result ≡ scan forward (bit_at a.words.now) (min a.n ((a.i + 1 + 7) / 8 * 8) - (a.i + 1)) (a.i + 1) a.r)
-first-in-Left c = rw (to_z-of_z w64 _ c.ranges.r, c.earlier-edge.ensures) at c.edge_fwd.ensures
+    (far_under a.n c.requires.short a.r c.ranges.r c.if-r-most.true)
 
 -- after these bits, the rest of the start block is left to scan
 after-edge-after-past_edge_fwd : (c : goal.After-past_edge_fwd) → (let a = c.args in
     let from = a.i + 1 in let edge = min a.n ((from + 7) / 8 * 8) in let to = min a.n ((from / a.block + 1) * a.block) in
     Reading forward (bit_at a.words.now) (to - from) from a.r (to - edge) edge (to_z w64 (of_z w64 c.in-Left.q)))
 after-edge-after-past_edge_fwd c =
-    let n = c in
-    let e = n in
-    let s = e in
-    let f = s.requires in
-    part_on (reading_start _ _ _ _ _) (head_fwd s.args.n s.args.block f.eight f.eights s.args.i e.if-n-from.false)
-    (first-after-past_edge_fwd n) c.in-Left.is (search rules)
+    let f = c.requires in
+    part_on (reading_start _ _ _ _ _) (head_fwd c.args.n c.args.block f.eight f.eights c.args.i c.if-n-from.false)
+    (rw (to_z-of_z w64 _ c.ranges.r, c.earlier-edge.ensures) at c.edge_fwd.ensures) c.in-Left.is (search rules)
 
 -- after these bits, the rest of the start block is left to scan
 after-edge-in-Left : (c : goal.In-Left) → (let a = c.args in
     let from = a.i + 1 in let edge = min a.n ((from + 7) / 8 * 8) in let to = min a.n ((from / a.block + 1) * a.block) in
     Reading forward (bit_at a.words.now) (to - from) from a.r (to - edge) edge (to_z w64 (of_z w64 c.in-Left.q)))
 after-edge-in-Left c =
-    let n = c in
-    let e = n in
-    let s = e in
-    let f = s.requires in
-    part_on (reading_start _ _ _ _ _) (head_fwd s.args.n s.args.block f.eight f.eights s.args.i e.if-n-from.false)
-    (first-in-Left n) c.in-Left.is (search rules)
+    let f = c.requires in
+    part_on (reading_start _ _ _ _ _) (head_fwd c.args.n c.args.block f.eight f.eights c.args.i c.if-n-from.false)
+    (rw (to_z-of_z w64 _ c.ranges.r, c.earlier-edge.ensures) at c.edge_fwd.ensures) c.in-Left.is (search rules)
 
 pub past_edge_fwd-requires : goal.past_edge_fwd-requires
 past_edge_fwd-requires c =
-    let n = c in
-    let e = n in
-    let s = e in
-    let a = s.args in
-    let f = s.requires in
+    let a = c.args in
+    let f = c.requires in
     let p : 0 < a.block = omega (arith, f.eight) in
     let k = (after-edge-in-Left c).near in
-    let z = near-in-Left e in
+    let z = (far_neither c.args.n c.requires.short c.args.r c.ranges.r c.if-most-r.false c.if-r-most.false) in
     let h = low a.n a.block p (a.i + 1) in
-    let o = n.earlier-edge.ensures in
+    let o = c.earlier-edge.ensures in
     record {
       fine = f;
-      begins = leaves_in a.n a.block p ((a.i + 1) / a.block) (start_in a.n a.block p forward a.i e.if-n-from.false);
+      begins = leaves_in a.n a.block p ((a.i + 1) / a.block) (start_in a.n a.block p forward a.i c.if-n-from.false);
       order = omega (arith, edge_fwd_in a.n a.block f.eight f.eights a.i);
       inside = omega arith;
       near = omega (arith, f.small, f.short);
@@ -140,20 +95,15 @@ past_edge_fwd-requires c =
 
 pub returns-in-Hit : goal.returns-in-Hit
 returns-in-Hit c =
-    let n = c in
-    let e = n in
-    let s = e in
-    let a = s.args in
-    let f = s.requires in
-    walk_starts forward a.words.now a.n a.nodes.now a.block a.i a.r (ended-in-Hit e) (near-in-Hit e)
-    (part_hit (reading_start _ _ _ _ _) (head_fwd a.n a.block f.eight f.eights a.i e.if-n-from.false) (first-in-Hit n)
+    let a = c.args in
+    let f = c.requires in
+    walk_starts forward a.words.now a.n a.nodes.now a.block a.i a.r (ended-in-Hit c) (far_neither c.args.n c.requires.short c.args.r c.ranges.r c.if-most-r.false c.if-r-most.false)
+    (part_hit (reading_start _ _ _ _ _) (head_fwd a.n a.block f.eight f.eights a.i c.if-n-from.false) (rw (to_z-of_z w64 _ c.ranges.r, c.earlier-edge.ensures) at c.edge_fwd.ensures)
     c.in-Hit.is)
 
 pub returns-in-Left : goal.returns-in-Left
 returns-in-Left c =
-    let n = c in
-    let e = n in
-    let a = e.args in
-    (rw n.earlier-edge.ensures at c.past_edge_fwd.ensures)
-    ∙ walk_starts forward a.words.now a.n a.nodes.now a.block a.i a.r (ended-after-past_edge_fwd e) (near-after-past_edge_fwd e)
+    let a = c.args in
+    (rw c.earlier-edge.ensures at c.past_edge_fwd.ensures)
+    ∙ walk_starts forward a.words.now a.n a.nodes.now a.block a.i a.r (ended-after-past_edge_fwd c) (far_neither c.args.n c.requires.short c.args.r c.ranges.r c.if-most-r.false c.if-r-most.false)
     (after-edge-after-past_edge_fwd c).same
