@@ -11,7 +11,6 @@ use Rattle.ints.specs.Sides.{size}
 use Rattle.ints.proofs.Shapes.{zsum}
 use Rattle.row.specs.Bits.{bit_at}
 use Rattle.row.specs.Way.{backward}
-use Rattle.bits_stretch.specs.Scan.{scan}
 use Rattle.bits_stretch.proofs.Parts.{scan_size}
 use Rattle.walk_code.proofs.backward.past_edge_bwd.Goals as goal
 

@@ -1,40 +1,17 @@
 -- `walk_code::backward::walk_bwd` walks backward from position i for the difference r. Its returns are: nothing because of i, nothing because
 -- |r| > n, a hit in the bits up to a byte boundary (the edge), and the answer of the walk beyond it. Assumes nothing.
-use mathlib.Core.Path.{◌≡◌, ◌∙◌}
-use mathlib.Core.Bool.{false}
-use Prim.Native.Nat.{◌-◌, ◌*◌, ◌/◌, ◌<◌}
+use mathlib.Core.Path.{◌∙◌}
+use Prim.Native.Nat.{◌-◌, ◌/◌, ◌<◌}
 use native.Mathlib.Omega.{arith}
 use borrow.Author.Tests.{eq-eqb, ne_eqb, le-leb, lt-leb}
-use mir.Syntax.{w64}
 use borrow.Author.Rules.{rules}
-use mir.Val.{to_z, of_z}
-use mir.ValLaws.{to_z-of_z}
 use Rattle.row.specs.Bits.{bit_at}
 use Rattle.row.specs.Way.{backward}
-use Rattle.bits_stretch.specs.Scan.{scan}
-use Rattle.bits_scan.proofs.Pieces.{Reading, reading_start, part_hit, part_on}
 use Rattle.mmt_layout.proofs.Powers.{leaves_in}
-use Rattle.walk_spec.specs.Walk.{ends_at_once}
 use Rattle.walk_spec.proofs.Right.{high, start_in}
-use Rattle.walk_code.proofs.Edges.{edge_bwd_in, head_bwd}
+use Rattle.walk_code.proofs.Edges.{edge_bwd_in, head_bwd, edge_hit, edge_left}
 use Rattle.walk_code.proofs.Answers.{far_over, far_under, far_neither, walk_end, walk_far, walk_starts}
 use Rattle.walk_code.proofs.backward.walk_bwd.Goals as goal
-
--- the walk does not end at once
-ended-after-past_edge_bwd : (c : goal.After-past_edge_bwd) → ends_at_once backward c.args.n c.args.i ≡ false
-ended-after-past_edge_bwd c = let a = c.args in rw (ne_eqb a.i 0 c.if-i-eq0.false, lt-leb a.n a.i c.if-n-i.false)
-
--- the walk does not end at once
-ended-in-Hit : (c : goal.In-Hit) → ends_at_once backward c.args.n c.args.i ≡ false
-ended-in-Hit c = let a = c.args in rw (ne_eqb a.i 0 c.if-i-eq0.false, lt-leb a.n a.i c.if-n-i.false)
-
--- the walk does not end at once
-ended-then-most-r : (c : goal.Then-most-r) → ends_at_once backward c.args.n c.args.i ≡ false
-ended-then-most-r c = let a = c.args in rw (ne_eqb a.i 0 c.if-i-eq0.false, lt-leb a.n a.i c.if-n-i.false)
-
--- the walk does not end at once
-ended-then-r-most : (c : goal.Then-r-most) → ends_at_once backward c.args.n c.args.i ≡ false
-ended-then-r-most c = let a = c.args in rw (ne_eqb a.i 0 c.if-i-eq0.false, lt-leb a.n a.i c.if-n-i.false)
 
 pub returns-then-i-eq0 : goal.returns-then-i-eq0
 returns-then-i-eq0 c =
@@ -49,32 +26,14 @@ returns-then-n-i c =
 pub returns-then-most-r : goal.returns-then-most-r
 returns-then-most-r c =
     let a = c.args in
-    walk_far backward a.words.now a.n a.nodes.now a.block a.i a.r (ended-then-most-r c)
+    walk_far backward a.words.now a.n a.nodes.now a.block a.i a.r (rw (ne_eqb a.i 0 c.if-i-eq0.false, lt-leb a.n a.i c.if-n-i.false))
     (far_over a.n c.requires.short a.r c.ranges.r c.if-most-r.true)
 
 pub returns-then-r-most : goal.returns-then-r-most
 returns-then-r-most c =
     let a = c.args in
-    walk_far backward a.words.now a.n a.nodes.now a.block a.i a.r (ended-then-r-most c)
+    walk_far backward a.words.now a.n a.nodes.now a.block a.i a.r (rw (ne_eqb a.i 0 c.if-i-eq0.false, lt-leb a.n a.i c.if-n-i.false))
     (far_under a.n c.requires.short a.r c.ranges.r c.if-r-most.true)
-
--- after these bits, the rest of the start block is left to scan
-after-edge-after-past_edge_bwd : (c : goal.After-past_edge_bwd) → (let a = c.args in
-    let edge = a.i / 8 * 8 in let from = (a.i - 1) / a.block * a.block in
-    Reading backward (bit_at a.words.now) (a.i - from) from a.r (edge - from) from (to_z w64 (of_z w64 c.in-Left.q)))
-after-edge-after-past_edge_bwd c =
-    let f = c.requires in
-    part_on (reading_start _ _ _ _ _) (head_bwd c.args.n c.args.block f.eight f.eights c.args.i (omega arith)) (rw (to_z-of_z w64 _ c.ranges.r) at c.edge_bwd.ensures)
-    c.in-Left.is (search rules)
-
--- after these bits, the rest of the start block is left to scan
-after-edge-in-Left : (c : goal.In-Left) → (let a = c.args in
-    let edge = a.i / 8 * 8 in let from = (a.i - 1) / a.block * a.block in
-    Reading backward (bit_at a.words.now) (a.i - from) from a.r (edge - from) from (to_z w64 (of_z w64 c.in-Left.q)))
-after-edge-in-Left c =
-    let f = c.requires in
-    part_on (reading_start _ _ _ _ _) (head_bwd c.args.n c.args.block f.eight f.eights c.args.i (omega arith)) (rw (to_z-of_z w64 _ c.ranges.r) at c.edge_bwd.ensures)
-    c.in-Left.is (search rules)
 
 pub past_edge_bwd-requires : goal.past_edge_bwd-requires
 past_edge_bwd-requires c =
@@ -82,8 +41,8 @@ past_edge_bwd-requires c =
     let f = c.requires in
     let p : 0 < a.block = omega (arith, f.eight) in
     let l : 0 < a.i = omega arith in
-    let k = (after-edge-in-Left c).near in
-    let z = (far_neither c.args.n c.requires.short c.args.r c.ranges.r c.if-most-r.false c.if-r-most.false) in
+    let k = (edge_left (bit_at a.words.now) (head_bwd a.n a.block f.eight f.eights a.i (omega arith)) c.ranges.r c.edge_bwd.ensures c.in-Left.is (search rules)).near in
+    let z = far_neither a.n f.short a.r c.ranges.r c.if-most-r.false c.if-r-most.false in
     let h = high a.n a.block p (a.i - 1) in
     record {
       fine = f;
@@ -97,12 +56,13 @@ pub returns-in-Hit : goal.returns-in-Hit
 returns-in-Hit c =
     let a = c.args in
     let f = c.requires in
-    walk_starts backward a.words.now a.n a.nodes.now a.block a.i a.r (ended-in-Hit c) (far_neither c.args.n c.requires.short c.args.r c.ranges.r c.if-most-r.false c.if-r-most.false)
-    (part_hit (reading_start _ _ _ _ _) (head_bwd a.n a.block f.eight f.eights a.i (omega arith)) (rw (to_z-of_z w64 _ c.ranges.r) at c.edge_bwd.ensures) c.in-Hit.is)
+    walk_starts backward a.words.now a.n a.nodes.now a.block a.i a.r (rw (ne_eqb a.i 0 c.if-i-eq0.false, lt-leb a.n a.i c.if-n-i.false)) (far_neither a.n f.short a.r c.ranges.r c.if-most-r.false c.if-r-most.false)
+    (edge_hit (bit_at a.words.now) (head_bwd a.n a.block f.eight f.eights a.i (omega arith)) c.ranges.r c.edge_bwd.ensures c.in-Hit.is)
 
 pub returns-in-Left : goal.returns-in-Left
 returns-in-Left c =
     let a = c.args in
+    let f = c.requires in
     c.past_edge_bwd.ensures
-    ∙ walk_starts backward a.words.now a.n a.nodes.now a.block a.i a.r (ended-after-past_edge_bwd c) (far_neither c.args.n c.requires.short c.args.r c.ranges.r c.if-most-r.false c.if-r-most.false)
-    (after-edge-after-past_edge_bwd c).same
+    ∙ walk_starts backward a.words.now a.n a.nodes.now a.block a.i a.r (rw (ne_eqb a.i 0 c.if-i-eq0.false, lt-leb a.n a.i c.if-n-i.false)) (far_neither a.n f.short a.r c.ranges.r c.if-most-r.false c.if-r-most.false)
+    (edge_left (bit_at a.words.now) (head_bwd a.n a.block f.eight f.eights a.i (omega arith)) c.ranges.r c.edge_bwd.ensures c.in-Left.is (search rules)).same

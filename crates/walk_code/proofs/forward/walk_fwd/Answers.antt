@@ -1,40 +1,17 @@
 -- `walk_code::forward::walk_fwd` walks forward from position i for the difference r. Its returns are: nothing because of i, nothing because
 -- |r| > n, a hit in the bits up to a byte boundary (the edge), and the answer of the walk beyond it. Assumes nothing.
-use mathlib.Core.Path.{◌≡◌, ◌∙◌}
-use mathlib.Core.Bool.{false}
-use Prim.Native.Nat.{◌+◌, ◌-◌, ◌*◌, ◌/◌, ◌<◌, min}
+use mathlib.Core.Path.{◌∙◌}
+use Prim.Native.Nat.{◌+◌, ◌/◌, ◌<◌}
 use native.Mathlib.Omega.{arith}
 use borrow.Author.Tests.{le-leb, lt-leb}
-use mir.Syntax.{w64}
 use borrow.Author.Rules.{rules}
-use mir.Val.{to_z, of_z}
-use mir.ValLaws.{to_z-of_z}
 use Rattle.row.specs.Bits.{bit_at}
 use Rattle.row.specs.Way.{forward}
-use Rattle.bits_stretch.specs.Scan.{scan}
-use Rattle.bits_scan.proofs.Pieces.{Reading, reading_start, part_hit, part_on}
 use Rattle.mmt_layout.proofs.Powers.{leaves_in}
-use Rattle.walk_spec.specs.Walk.{ends_at_once}
 use Rattle.walk_spec.proofs.Right.{low, start_in}
-use Rattle.walk_code.proofs.Edges.{edge_fwd_in, head_fwd}
+use Rattle.walk_code.proofs.Edges.{edge_fwd_in, head_fwd, edge_hit, edge_left}
 use Rattle.walk_code.proofs.Answers.{far_over, far_under, far_neither, walk_end, walk_far, walk_starts}
 use Rattle.walk_code.proofs.forward.walk_fwd.Goals as goal
-
--- the walk does not end at once
-ended-after-past_edge_fwd : (c : goal.After-past_edge_fwd) → ends_at_once forward c.args.n c.args.i ≡ false
-ended-after-past_edge_fwd c = let a = c.args in lt-leb a.n (a.i + 1) c.if-n-from.false
-
--- the walk does not end at once
-ended-in-Hit : (c : goal.In-Hit) → ends_at_once forward c.args.n c.args.i ≡ false
-ended-in-Hit c = let a = c.args in lt-leb a.n (a.i + 1) c.if-n-from.false
-
--- the walk does not end at once
-ended-then-most-r : (c : goal.Then-most-r) → ends_at_once forward c.args.n c.args.i ≡ false
-ended-then-most-r c = let a = c.args in lt-leb a.n (a.i + 1) c.if-n-from.false
-
--- the walk does not end at once
-ended-then-r-most : (c : goal.Then-r-most) → ends_at_once forward c.args.n c.args.i ≡ false
-ended-then-r-most c = let a = c.args in lt-leb a.n (a.i + 1) c.if-n-from.false
 
 pub returns-then-n-i : goal.returns-then-n-i
 returns-then-n-i c =
@@ -49,40 +26,22 @@ returns-then-n-from c =
 pub returns-then-most-r : goal.returns-then-most-r
 returns-then-most-r c =
     let a = c.args in
-    walk_far forward a.words.now a.n a.nodes.now a.block a.i a.r (ended-then-most-r c)
+    walk_far forward a.words.now a.n a.nodes.now a.block a.i a.r (lt-leb a.n (a.i + 1) c.if-n-from.false)
     (far_over a.n c.requires.short a.r c.ranges.r c.if-most-r.true)
 
 pub returns-then-r-most : goal.returns-then-r-most
 returns-then-r-most c =
     let a = c.args in
-    walk_far forward a.words.now a.n a.nodes.now a.block a.i a.r (ended-then-r-most c)
+    walk_far forward a.words.now a.n a.nodes.now a.block a.i a.r (lt-leb a.n (a.i + 1) c.if-n-from.false)
     (far_under a.n c.requires.short a.r c.ranges.r c.if-r-most.true)
-
--- after these bits, the rest of the start block is left to scan
-after-edge-after-past_edge_fwd : (c : goal.After-past_edge_fwd) → (let a = c.args in
-    let from = a.i + 1 in let edge = min a.n ((from + 7) / 8 * 8) in let to = min a.n ((from / a.block + 1) * a.block) in
-    Reading forward (bit_at a.words.now) (to - from) from a.r (to - edge) edge (to_z w64 (of_z w64 c.in-Left.q)))
-after-edge-after-past_edge_fwd c =
-    let f = c.requires in
-    part_on (reading_start _ _ _ _ _) (head_fwd c.args.n c.args.block f.eight f.eights c.args.i c.if-n-from.false)
-    (rw (to_z-of_z w64 _ c.ranges.r, c.earlier-edge.ensures) at c.edge_fwd.ensures) c.in-Left.is (search rules)
-
--- after these bits, the rest of the start block is left to scan
-after-edge-in-Left : (c : goal.In-Left) → (let a = c.args in
-    let from = a.i + 1 in let edge = min a.n ((from + 7) / 8 * 8) in let to = min a.n ((from / a.block + 1) * a.block) in
-    Reading forward (bit_at a.words.now) (to - from) from a.r (to - edge) edge (to_z w64 (of_z w64 c.in-Left.q)))
-after-edge-in-Left c =
-    let f = c.requires in
-    part_on (reading_start _ _ _ _ _) (head_fwd c.args.n c.args.block f.eight f.eights c.args.i c.if-n-from.false)
-    (rw (to_z-of_z w64 _ c.ranges.r, c.earlier-edge.ensures) at c.edge_fwd.ensures) c.in-Left.is (search rules)
 
 pub past_edge_fwd-requires : goal.past_edge_fwd-requires
 past_edge_fwd-requires c =
     let a = c.args in
     let f = c.requires in
     let p : 0 < a.block = omega (arith, f.eight) in
-    let k = (after-edge-in-Left c).near in
-    let z = (far_neither c.args.n c.requires.short c.args.r c.ranges.r c.if-most-r.false c.if-r-most.false) in
+    let k = (edge_left (bit_at a.words.now) (head_fwd a.n a.block f.eight f.eights a.i c.if-n-from.false) c.ranges.r (rw c.earlier-edge.ensures at c.edge_fwd.ensures) c.in-Left.is (search rules)).near in
+    let z = far_neither a.n f.short a.r c.ranges.r c.if-most-r.false c.if-r-most.false in
     let h = low a.n a.block p (a.i + 1) in
     let o = c.earlier-edge.ensures in
     record {
@@ -97,13 +56,13 @@ pub returns-in-Hit : goal.returns-in-Hit
 returns-in-Hit c =
     let a = c.args in
     let f = c.requires in
-    walk_starts forward a.words.now a.n a.nodes.now a.block a.i a.r (ended-in-Hit c) (far_neither c.args.n c.requires.short c.args.r c.ranges.r c.if-most-r.false c.if-r-most.false)
-    (part_hit (reading_start _ _ _ _ _) (head_fwd a.n a.block f.eight f.eights a.i c.if-n-from.false) (rw (to_z-of_z w64 _ c.ranges.r, c.earlier-edge.ensures) at c.edge_fwd.ensures)
-    c.in-Hit.is)
+    walk_starts forward a.words.now a.n a.nodes.now a.block a.i a.r (lt-leb a.n (a.i + 1) c.if-n-from.false) (far_neither a.n f.short a.r c.ranges.r c.if-most-r.false c.if-r-most.false)
+    (edge_hit (bit_at a.words.now) (head_fwd a.n a.block f.eight f.eights a.i c.if-n-from.false) c.ranges.r (rw c.earlier-edge.ensures at c.edge_fwd.ensures) c.in-Hit.is)
 
 pub returns-in-Left : goal.returns-in-Left
 returns-in-Left c =
     let a = c.args in
+    let f = c.requires in
     (rw c.earlier-edge.ensures at c.past_edge_fwd.ensures)
-    ∙ walk_starts forward a.words.now a.n a.nodes.now a.block a.i a.r (ended-after-past_edge_fwd c) (far_neither c.args.n c.requires.short c.args.r c.ranges.r c.if-most-r.false c.if-r-most.false)
-    (after-edge-after-past_edge_fwd c).same
+    ∙ walk_starts forward a.words.now a.n a.nodes.now a.block a.i a.r (lt-leb a.n (a.i + 1) c.if-n-from.false) (far_neither a.n f.short a.r c.ranges.r c.if-most-r.false c.if-r-most.false)
+    (edge_left (bit_at a.words.now) (head_fwd a.n a.block f.eight f.eights a.i c.if-n-from.false) c.ranges.r (rw c.earlier-edge.ensures at c.edge_fwd.ensures) c.in-Left.is (search rules)).same
