@@ -1,7 +1,6 @@
 // Writes a whole listing with one call, for callers that keep no listing.
 //
 // The answers of the steps are written in order, as the C functions number them. A refused constructor leaves the slice unchanged.
-// No function here takes a struct with references, so none needs the hand-written proofs of the crate list_struct.
 ghost use Rattle.std.specs.Prelude.{◌≡◌, length};
 ghost use Rattle.row.specs.Writes.{Writes};
 ghost use Rattle.row.specs.Answer.{paper_found};

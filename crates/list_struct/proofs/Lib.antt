@@ -1,4 +1,2 @@
-pub mod Rules
 pub mod Held
-pub mod Making
 pub mod Sequence

@@ -1,6 +1,5 @@
 // A listing and its functions. The functions are thin: the work is done by the crate list_slice, on plain slices.
 //
-// Rattle's borrow checker covers no function over a struct with references, so each of these functions has a hand-written proof.
 // Every function tests all that it is passed, the fields of a listing too. So any field values are safe.
 ghost use Rattle.std.specs.Prelude.{◌≡◌, true, false};
 ghost use Rattle.list_struct.specs.Listing.{created, stepped};

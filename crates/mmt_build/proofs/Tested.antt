@@ -21,18 +21,16 @@ use lib.ListN.{length}
 use Rattle.ints.specs.Order.{eq_z}
 use Rattle.ints.proofs.Order.{eq_z_true, eq_z_yes}
 use Rattle.row.specs.declared.refusal.Refusal.{Refusal}
-use Rattle.row.specs.declared.answer.Told.{Told}
 use Rattle.row.specs.declared.answer.Told.TheVariants.{Yes, No, Refused}
 use Rattle.row.specs.declared.gate.Gate.{Gate}
 use Rattle.row.specs.declared.gate.Gate.TheVariants.{Pass, Refuse}
-use Rattle.row.specs.Answer.{paper_told}
 use Rattle.row.specs.Tree.{all_below}
 use Rattle.row.proofs.Bools.{and_left, and_right, and_both}
 use Rattle.row.proofs.Tree.{all_each, each_all}
 use Rattle.bits_stretch.specs.declared.summary.Summary.{Summary}
 use Rattle.mmt_layout.specs.Layout.{width, count, nodes_gate}
 use Rattle.mmt_node.specs.Nodes.{node_at, node_from, Ruled, AsBuilt}
-use Rattle.mmt_build.specs.Check.{same_summary, built_test, as_built_answer, DecidesBuilt, AsBuiltPromise}
+use Rattle.mmt_build.specs.Check.{same_summary, built_test, as_built_answer, AsBuiltPromise}
 use Rattle.mmt_layout.proofs.Admitted.{gate_fine}
 
 -- ---- the comparison of two nodes

@@ -10,14 +10,12 @@ use Prim.Native.Nat.{ℕ}
 use native.Mathlib.Omega.{arith}
 use lib.ListN.{length}
 use Rattle.row.specs.declared.refusal.Refusal.{Refusal}
-use Rattle.row.specs.declared.answer.Told.{Told}
 use Rattle.row.specs.declared.answer.Told.TheVariants.{Yes, No, Refused}
 use Rattle.row.specs.declared.gate.Gate.TheVariants.{Pass, Refuse}
-use Rattle.row.specs.Answer.{paper_told}
 use Rattle.row.specs.Tree.{one_tree}
 use Rattle.row.specs.Gates.{row_gate}
 use Rattle.row.proofs.Tree.{one_tree_true, one_tree_yes}
-use Rattle.one_tree.specs.OneTree.{one_tree_answer, DecidesTree, OneTreePromise}
+use Rattle.one_tree.specs.OneTree.{one_tree_answer, OneTreePromise}
 
 module _ (ws : List ℕ) (n : ℕ) where
   pub when_refused : (k : Refusal) → row_gate (length ws) n ≡ Refuse k → OneTreePromise ws n (Refused k)

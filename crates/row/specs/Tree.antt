@@ -1,6 +1,6 @@
 -- Open and close bits of a row (SCOPE, The row and its excess). Handles, and rows that are one tree (SCOPE, The calls).
 -- Assumes nothing.
-use Rattle.std.specs.Prelude.{◌≡◌, Bool, true, ◌&&◌, List, ℕ, zero, suc, ◌-◌, ◌≤◌, ◌<◌, ltb, leb, eqb, ℤ, pos, ◌<ℤ◌}
+use Rattle.std.specs.Prelude.{◌≡◌, Bool, true, ◌&&◌, List, ℕ, zero, suc, ◌-◌, ◌≤◌, ◌<◌, ltb, leb, eqb, pos, ◌<ℤ◌}
 use Rattle.std.specs.Int.Signed.{lt_z}
 use Rattle.ints.specs.Order.{eq_z}
 use Rattle.row.specs.Bits.{bit_at}

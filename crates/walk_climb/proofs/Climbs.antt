@@ -5,6 +5,8 @@
 --   climbed_up: at a node without a sibling beyond it, the climb goes on at the parent
 --   climbed_asked: at any other node `by_beside` is the result
 --   rises_start, rises_on: `Rises` holds at the start, and after each node without a sibling beyond it
+--   part: for each answer of the sibling, `by_beside` is the result of the whole climb
+--   part_room: after a passed sibling, the remainder has room for the climb from the parent
 --   Turned, turned: the node that a climb turns to exists and has its height, and the remainder has room for a descent
 -- Assumes nothing.
 use mathlib.Core.Path.{◌≡◌, refl, sym, ap, ◌∙◌}
@@ -25,10 +27,10 @@ use Rattle.walk_spec.proofs.Steps.{climb_root, climb_up, climb_beside}
 use Rattle.walk_examine.specs.declared.ask.Asked.{Asked}
 use Rattle.walk_examine.specs.declared.ask.Asked.TheVariants.{Here, Past, Absent, Misfit as MisfitAsked}
 use Rattle.walk_examine.specs.Asked.{asked_of, Room}
-use Rattle.walk_examine.proofs.Asks.{passed_size}
+use Rattle.walk_examine.proofs.Asks.{passed_size, says, past_size}
 use Rattle.walk_climb.specs.declared.path.Climbed.{Climbed}
 use Rattle.walk_climb.specs.declared.path.Climbed.TheVariants.{Turn, Out, Misfit as MisfitClimbed}
-use Rattle.walk_climb.specs.Climbed.{climbed_of, Rises}
+use Rattle.walk_climb.specs.Climbed.{climbed_of, Rises, Above}
 
 module _ (w : Way) (m : ℕ) (s : List ℤ) where
   -- ---- the count
@@ -81,6 +83,14 @@ module _ (w : Way) (k h : ℕ) where
     room = omega (arith, p.room);
     same = λ m s r. climbed_up w m s g j r z e ∙ p.same m s r;
   }
+
+-- ---- the sibling beyond node j is asked, where node j at height g is above node k at height h
+module _ (w : Way) (m : ℕ) (s : List ℤ) (k h : ℕ) (r : ℤ) {j g : ℕ} (y : Above w k h j g) (z : j ≡ 0 → ⊥) where
+  pub part : {b : Asked} → asked_of w m s (sibling_beyond w j) r ≡ b → by_beside w m s g j r b ≡ climbed_of (climb w m s k h k r 0)
+  part e = climbed_asked w m s g j r z (y.sibling z) e ∙ y.rises.same m s r
+
+  pub part_room : {q : ℤ} → asked_of w m s (sibling_beyond w j) r ≡ Past q → Room (h + 2 * k) r → Room (g + 1 + 2 * ((j - 1) / 2)) q
+  part_room {q} e o = omega (arith, y.rises.room, past_size w m s (sibling_beyond w j) r q (says w m s (sibling_beyond w j) r refl e))
 
 -- ---- the node that a climb turns to; t is the height of the root
 

@@ -4,14 +4,18 @@
 --   descend_count: the count does not change the result
 --   by_first, by_second: the result of one level for each answer of the first child, and of the second
 --   down_first, down_second: one level down is decided by the first child, or by the second
+--   past_room: after a passed first child, the remainder has room for the second
+--   told_second: as down_second, where the machine reads the remainder back from 64 bits
 --   on_down: the descent goes on by b levels
 --   descended_leaf: a descent with no level left stays at its node
 --   kept: a claim that holds for the children of a node if it holds for the node also holds for the node reached
+--   told_down: the result of a descent by a call, where the machine reads the remainder back from 64 bits
 --   descended_then: a descent by a levels and then by b levels is the descent by a + b levels
 --   fallen: `Fallen` holds after a levels
+--   told_then, told_fallen: the same, where a call goes down by the a levels
 --   Landed, landed: the node that a descent reaches exists and is a block leaf, and the remainder has room for the bits of its block
 -- Assumes nothing.
-use mathlib.Core.Path.{◌≡◌, refl, sym, ap}
+use mathlib.Core.Path.{◌≡◌, refl, sym, ap, ◌∙◌}
 use mathlib.Core.Bool.{true}
 use mathlib.Core.List.{List}
 use Prim.Native.Nat.{ℕ, zero, suc, ◌+◌, ◌<◌}
@@ -20,6 +24,9 @@ use native.Mathlib.Omega.{arith}
 use borrow.Author.Tests.{leb-false}
 use lib.Dec.{leb}
 use lib.IntN.{ℤ}
+use mir.Syntax.{w64}
+use mir.Val.{SFits, to_z, of_z}
+use mir.ValLaws.{to_z-of_z}
 use Rattle.row.specs.Way.{Way}
 use Rattle.bits_stretch.specs.declared.summary.Summary.{Summary}
 use Rattle.bits_stretch.specs.Scan.{passed}
@@ -31,7 +38,7 @@ use Rattle.walk_spec.proofs.Steps.{descend_leaf}
 use Rattle.walk_examine.specs.declared.ask.Asked.{Asked}
 use Rattle.walk_examine.specs.declared.ask.Asked.TheVariants.{Here, Past, Absent, Misfit as MisfitAsked}
 use Rattle.walk_examine.specs.Asked.{asked_of, Room}
-use Rattle.walk_examine.proofs.Asks.{passed_size}
+use Rattle.walk_examine.proofs.Asks.{passed_size, room_fits, answer, says, past_size}
 use Rattle.walk_descend.specs.declared.path.Descended.{Descended}
 use Rattle.walk_descend.specs.declared.path.Descended.TheVariants.{Leaf, Lost}
 use Rattle.walk_descend.specs.Descended.{descended_of}
@@ -90,9 +97,17 @@ module _ (w : Way) (m : ℕ) (s : List ℤ) where
     pub down_first : {b : Asked} → asked_of w m s (nearer w k) r ≡ b → by_first b ≡ descended_of (descend w m s 1 k r 0)
     down_first e = rw (sym e) down_asked
 
+    -- after a passed first child, the remainder has room for the second
+    pub past_room : {q : ℤ} → asked_of w m s (nearer w k) r ≡ Past q → Room 1 r → Room 0 q
+    past_room {q} e o = omega (arith, past_size w m s (nearer w k) r q (says w m s (nearer w k) r refl e))
+
     pub down_second : (q : ℤ) {b : Asked} → asked_of w m s (nearer w k) r ≡ Past q → asked_of w m s (farther w k) q ≡ b
         → by_second q b ≡ descended_of (descend w m s 1 k r 0)
     down_second q e f = rw (sym f) (down_first e)
+
+    pub told_second : {q : ℤ} {a b : Asked} → asked_of w m s (nearer w k) r ≡ Past q → Room 1 r → a ≡ asked_of w m s (farther w k) (to_z w64 (of_z w64 q)) → a ≡ b
+        → by_second q b ≡ descended_of (descend w m s 1 k r 0)
+    told_second {q} e o p f = down_second q e (answer w m s (farther w k) q (room_fits 0 q (past_room e o)) p f)
 
   -- ---- down by a levels, then by b levels
   abbrev pub on_down : ℕ → Descended → Descended
@@ -140,6 +155,11 @@ module _ (w : Way) (m : ℕ) (s : List ℤ) where
         (λ d. tt))))
         (λ g. tt))
 
+  -- ---- a levels by a call, where the machine reads the remainder back from 64 bits
+  pub told_down : (a k : ℕ) (r : ℤ) {d b : Descended} → SFits w64 r → d ≡ descended_of (descend w m s a k (to_z w64 (of_z w64 r)) 0) → d ≡ b
+      → descended_of (descend w m s a k r 0) ≡ b
+  told_down a k r f p e = sym (rw (to_z-of_z w64 r f) at p) ∙ e
+
   -- ---- h levels in two parts: a levels, with the result d, and the b levels left
   module _ (a b h k : ℕ) (r : ℤ) (z : h ≡ a + b) {d : Descended} (e : descended_of (descend w m s a k r 0) ≡ d) where
     pub descended_then : on_down b d ≡ descended_of (descend w m s h k r 0)
@@ -150,6 +170,14 @@ module _ (w : Way) (m : ℕ) (s : List ℤ) where
         rw (sym e)
         (kept (λ g j q. (j < m) × Room g q) (λ g j q u p. let v = p.1 in (u, omega arith))
         (λ g j q x y u p. let v = p.1 in (u, omega (arith, passed_size w q x y))) a b k r 0 (l, rw z at o))
+
+  -- ---- the same, where a call goes down by a levels
+  module _ (a b h k : ℕ) (r : ℤ) (z : h ≡ a + b) (f : SFits w64 r) {c d : Descended} (p : c ≡ descended_of (descend w m s a k (to_z w64 (of_z w64 r)) 0)) (e : c ≡ d) where
+    pub told_then : on_down b d ≡ descended_of (descend w m s h k r 0)
+    told_then = descended_then a b h k r z (told_down a k r f p e)
+
+    pub told_fallen : k < m → Room h r → Fallen m b d
+    told_fallen = fallen a b h k r z (told_down a k r f p e)
 
 -- ---- the end of a descent; t is the height of the root
 

@@ -10,15 +10,16 @@
 --   Looked, looked: what each result of `examine` says about the node
 --   total_back: the total that the machine reads is the total of the node
 --   asked_absent, asked_misfit, asked_here, asked_past: the answer of a node in each of the four cases
+--   answer: the answer of the node, where the machine reads the remainder back from 64 bits
 --   Says, says: what each answer says about the node
 --   past_size: the remainder in the answer `Past` is larger by at most 2^32
 -- Assumes nothing.
 use mathlib.Core.Path.{◌≡◌, refl, sym, ◌∙◌}
-use mathlib.Core.Bool.{Bool, true, false, cond, not, ◌&&◌}
+use mathlib.Core.Bool.{Bool, true, false, cond, ◌&&◌}
 use mathlib.Core.List.{List}
 use Prim.Native.Nat.{ℕ, ◌+◌, ◌≤◌, ◌<◌}
 use native.Mathlib.Omega.{arith}
-use borrow.Author.Tests.{leb-true, leb-false, le-leb, lt-leb, not-true, not-false}
+use borrow.Author.Tests.{leb-true, leb-false, le-leb, lt-leb}
 use lib.Dec.{leb}
 use lib.IntN.{ℤ, pos, negsuc, neg_ℤ}
 use lib.Signed.{le_z}
@@ -63,11 +64,11 @@ pub passed_fits : (w : Way) (r : ℤ) (x : Summary) → fits x ≡ true → Room
 passed_fits w r x e h = omega (zsum, passed_size w r x e)
 
 -- ---- the test `!near_zero(z)`, where the machine reads z back from 64 bits
-pub told_no : {z : ℤ} {b : Bool} → SFits w64 z → b ≡ in_range (to_z w64 (of_z w64 z)) → not b ≡ true → in_range z ≡ false
-told_no {z} {b} f q e = sym (rw (to_z-of_z w64 z f) at q) ∙ not-true b e
+pub told_no : {z : ℤ} {b : Bool} → SFits w64 z → b ≡ in_range (to_z w64 (of_z w64 z)) → b ≡ false → in_range z ≡ false
+told_no {z} {b} f q e = sym (rw (to_z-of_z w64 z f) at q) ∙ e
 
-pub told_yes : {z : ℤ} {b : Bool} → SFits w64 z → b ≡ in_range (to_z w64 (of_z w64 z)) → not b ≡ false → in_range z ≡ true
-told_yes {z} {b} f q e = sym (rw (to_z-of_z w64 z f) at q) ∙ not-false b e
+pub told_yes : {z : ℤ} {b : Bool} → SFits w64 z → b ≡ in_range (to_z w64 (of_z w64 z)) → b ≡ true → in_range z ≡ true
+told_yes {z} {b} f q e = sym (rw (to_z-of_z w64 z f) at q) ∙ e
 
 -- ---- an examined node with the entries x
 module _ (x : Summary) where
@@ -122,6 +123,9 @@ module _ (w : Way) (m : ℕ) (s : List ℤ) (k : ℕ) (r : ℤ) where
       pub asked_past : holds_on w (node_at s k) r ≡ false → Past (passed w r (node_at s k).total) ≡ asked_of w m s k r
       unfolding asked_of
       asked_past y = rw (lt-leb m k l, f, y)
+
+  pub answer : {a b : Asked} → SFits w64 r → a ≡ asked_of w m s k (to_z w64 (of_z w64 r)) → a ≡ b → asked_of w m s k r ≡ b
+  answer {a} {b} f p e = sym (rw (to_z-of_z w64 r f) at p) ∙ e
 
   -- what each answer says about node k
   abbrev pub Says : Asked → Type 0

@@ -25,7 +25,7 @@ use lib.Dec.{leb, eqb}
 use lib.IntN.{ℤ, pos, ◌+ℤ◌}
 use Rattle.row.specs.Limits.{max_bits}
 use Rattle.ints.specs.Sides.{size}
-use Rattle.row.specs.Answer.{Answer, at, nothing, refused}
+use Rattle.row.specs.Answer.{Answer, nothing, refused}
 use Rattle.row.specs.Bits.{bit_at}
 use Rattle.row.specs.Excess.{E}
 use Rattle.row.specs.Search.{fwd, bwd}

@@ -10,7 +10,7 @@ use mathlib.Core.Logic.{⊎_elim}
 use mathlib.Core.Bool.{Bool, true, false, true≢false}
 use Prim.Native.Nat.{ℕ, zero, suc, ◌≤◌}
 use native.Mathlib.Omega.{arith}
-use lib.IntN.{ℤ, pos, negsuc, ◌+ℤ◌, neg_ℤ}
+use lib.IntN.{ℤ, pos, ◌+ℤ◌, neg_ℤ}
 use lib.Signed.{le_z, ◌≤ℤ◌}
 use Rattle.row.specs.Limits.{max_bits}
 use Rattle.ints.specs.Sides.{size}

@@ -2,7 +2,7 @@
 -- A walk gives an answer and the number of examined nodes. One definition covers both directions: the direction is a parameter.
 -- In this crate a node is a min-max node, and its height is its distance from the block leaves.
 -- Assumes nothing.
-use Rattle.std.specs.Prelude.{Bool, cond, ◌&&◌, ◌||◌, List, ℕ, zero, suc, ◌+◌, ◌-◌, ◌*◌, ◌/◌, ◌%◌, min, ltb, leb, eqb, ℤ, pos, negsuc, ◌+ℤ◌, neg_ℤ}
+use Rattle.std.specs.Prelude.{Bool, cond, ◌&&◌, ◌||◌, List, ℕ, zero, suc, ◌+◌, ◌-◌, ◌*◌, ◌/◌, ◌%◌, min, ltb, leb, eqb, ℤ, pos, ◌+ℤ◌, neg_ℤ}
 use Rattle.std.specs.Int.Signed.{le_z}
 use Rattle.row.specs.Limits.{max_bits}
 use Rattle.ints.specs.Sides.{size}

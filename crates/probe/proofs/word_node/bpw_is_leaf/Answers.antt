@@ -1,0 +1,7 @@
+-- `probe::bpw_is_leaf` makes the call `is_leaf` and returns its answer as one i64.
+-- The proof: the answer fits into an i64, so the conversion keeps its value. Assumes nothing.
+use Rattle.c_dispatch.proofs.Small.{crossed}
+use Rattle.probe.proofs.word_node.bpw_is_leaf.Goals as goal
+
+pub returns : goal.returns
+returns c = crossed (record { sfits = c.told.type_inv }) c.told.ensures c.is_IsLeaf.ensures

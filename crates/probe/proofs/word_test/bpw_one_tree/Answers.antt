@@ -1,0 +1,7 @@
+-- `probe::bpw_one_tree` makes the call `one_tree` and returns its answer as one i64.
+-- The proof: the answer fits into an i64, so the conversion keeps its value. Assumes nothing.
+use Rattle.c_dispatch.proofs.Small.{crossed}
+use Rattle.probe.proofs.word_test.bpw_one_tree.Goals as goal
+
+pub returns : goal.returns
+returns c = crossed (record { sfits = c.told.type_inv }) c.told.ensures c.one_tree.ensures.answer
