@@ -3,8 +3,8 @@
 --   end_near, line_near: a line of at most 4,096 bytes; end_far: a longer line
 --   input_front, words_front: the answer for the input and the words, from its first 4,097 bytes
 -- Assumes nothing.
-use Rattle.std.proofs.Common.{◌≡◌, ℕ, zero, suc, ◌+◌, ◌≤◌, ◌<◌, min, Bool, true, false, cond, eqb, leb, List, [], ◌∷◌, take, refl, sym, ap, ◌∙◌, arith}
-use borrow.Author.Tests.{leb-true, leb-false, le-leb, lt-leb}
+use Rattle.std.proofs.Common.{◌≡◌, ℕ, zero, suc, ◌≤◌, ◌<◌, min, Bool, true, false, cond, eqb, leb, List, [], ◌∷◌, take, refl, ap, ◌∙◌, arith}
+use borrow.Author.Tests.{leb-true, leb-false, lt-leb}
 use lib.Seq.{take-take}
 use Rattle.row.specs.Limits.{max_short_bits}
 use Rattle.app_line.specs.Input.{line_end, line, line_words, input_answer}
