@@ -14,8 +14,7 @@ pub struct Children<'a> {
     pub held: Found,
 }
 
-// The result of a constructor. An enum cannot have a reference, so a refused constructor returns the refusal in `gate`, together with a
-// listing that has ended.
+// The result of a constructor. A refused constructor returns the refusal in `gate`, together with a listing that has ended.
 #[derive(Clone, Copy)]
 pub struct Made<'a> {
     pub gate: Gate,
