@@ -2,9 +2,9 @@
 --   Outcome, outcome, input_taken: an input that is not refused has at most 4,096 bits and is one tree
 --   few_nodes, room_for, not_refused: so its build is not refused; built-lines: and the lines over its nodes are the page by definition
 --   printed_tree, printed_refused: the page of a tree, and the line of a refusal
---   printed_fits: all output fits into 65,536 bytes
+--   printed_fits: all output fits into 65,536 bytes; printed_front: it depends only on the first 4,097 bytes of the input
 -- Assumes nothing.
-use mathlib.Core.Path.{◌≡◌, refl, ap}
+use mathlib.Core.Path.{◌≡◌, refl, ap, ◌∙◌}
 use mathlib.Core.Bool.{Bool, true, false}
 use mathlib.Core.List.{List, [], ◌∷◌}
 use Prim.Native.Nat.{ℕ, ◌*◌, ◌≤◌, ◌<◌}
@@ -12,7 +12,7 @@ use native.Mathlib.Omega.{arith}
 use borrow.Author.Tests.{leb-true}
 use lib.Dec.{leb, eqb}
 use lib.IntN.{pos}
-use lib.ListN.{length, replicate, length-append}
+use lib.ListN.{length, take, replicate, length-append}
 use Rattle.row.specs.Limits.{max_short_bits}
 use Rattle.row.specs.Answer.{Answer, at, nothing, refused}
 use Rattle.row.specs.Gates.{through}
@@ -27,6 +27,7 @@ use Rattle.demands.proofs.Second.{second}
 use Rattle.demands.proofs.Third.{third}
 use Rattle.app_line.specs.Input.{line_end, line, input_answer, line_words}
 use Rattle.app_line.proofs.Line.{words_read}
+use Rattle.app_line.proofs.Front.{input_front, words_front}
 use Rattle.app_levels.specs.Shown.{refused_text, refusal_line}
 use Rattle.app_levels.specs.Levels.{lines_for, tree_lines}
 use Rattle.app_levels.specs.Outline.{defined_lines}
@@ -105,3 +106,10 @@ module _ (s : List ℕ) where
       by (at n) i = page_fits (line_words s blank_words) n i.short i.tree
       by nothing i = omega arith
       by (refused k) i = omega (arith, refusal_fits k i, length-append (refused_text k) (10 ∷ []))
+
+  -- The bytes after the first 4,097 are not needed: a line of more than 4,096 bytes is refused, whatever they are.
+  pub printed_front : printed (take 4097 s) ≡ printed s
+  unfolding printed
+  printed_front =
+      ap (λ a. lines_for a (defined_lines (line_words (take 4097 s) blank_words))) (input_front s blank_words)
+      ∙ ap (λ ws. lines_for (input_answer s blank_words) (defined_lines ws)) (words_front s blank_words)

@@ -4,7 +4,7 @@
 // This crate knows only bytes and numbers. What they mean is up to the caller.
 #![tactic(auto)]
 
-ghost use Rattle.std.specs.Prelude.{[], ◌∷◌};
+ghost use Rattle.std.specs.Prelude.{◌≡◌, min, [], ◌∷◌, length};
 ghost use Rattle.io.specs.Counts.{IsPrefixLen};
 ghost use Rattle.app_page.specs.Page.{Adds, decimal_of};
 
@@ -43,7 +43,8 @@ pub fn put_number(page: &mut [u8], at: usize, n: u64) -> usize
 
 // Returns `at`, or the length of the page if that is smaller. So `&page[..r]` is in bounds for the result r.
 pub fn filled(page: &[u8], at: usize) -> usize
-    ensures { IsPrefixLen result page.now }
+    ensures prefix_len { IsPrefixLen result page.now }
+    ensures value { result ≡ min at (length page.now) }
 {
     if page.len() < at {
         return page.len();
