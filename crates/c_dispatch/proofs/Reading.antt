@@ -1,5 +1,6 @@
 -- What the text reader over bytes answers and writes.
 --   count_passed: an answer that is a bit count means that the tests passed
+--   read_fits: then the bit count is the length of the text, and its words fit
 --   refusal_keeps: an answer that is a refusal means that the slice is unchanged
 --   row_refused, row_passed: the bytes of the row after a refusal, and after success
 --   too_long, short: the test of the limit of 4,096 bytes
@@ -11,14 +12,14 @@ use native.Mathlib.Omega.{arith}
 use borrow.Author.Tests.{le-leb, lt-leb}
 use lib.ListN.{length, take, drop}
 use lib.Seq.{take_at}
-use Rattle.row.specs.Limits.{max_short_bits}
+use Rattle.row.specs.Limits.{max_bits, max_short_bits}
 use Rattle.row.specs.declared.refusal.Refusal.TheVariants.{TooManyBits}
 use Rattle.row.specs.declared.gate.Gate.{Gate}
 use Rattle.row.specs.declared.gate.Gate.TheVariants.{Pass, Refuse}
 use Rattle.row.specs.Answer.{Answer, at, nothing, refused}
 use Rattle.row.specs.Gates.{words_for, through, kept}
 use Rattle.text.specs.Text.{words_of, text_gate, text_words}
-use Rattle.text.proofs.Text.{words_length, words_passed}
+use Rattle.text.proofs.Text.{text_fits, words_length, words_passed}
 use Rattle.wire.specs.Bytes.{words_over}
 use Rattle.c_dispatch.specs.Reader.{short_gate, left_row}
 
@@ -37,6 +38,9 @@ refusal_keeps Pass k m x y e = let z : 0 ≡ suc m = ap valued e in absurd (omeg
 refusal_keeps (Refuse j) k m x y e = refl
 
 module _ (text : List ℕ) where
+  pub read_fits : (w n : ℕ) → at n ≡ through (text_gate text w) (at (length text)) → (n ≤ max_bits) × (words_for n ≤ w)
+  read_fits w n e = let p = count_passed _ _ _ e in rw p.1 (text_fits text w p.0)
+
   front : (ws : List ℕ) → text_gate text (length ws) ≡ Pass → take (words_for (length text)) (text_words text ws) ≡ words_of text (words_for (length text))
   front ws g =
       let c = words_for (length text) in

@@ -15,5 +15,5 @@ returns-in-Refuse c = node_refused _ _ _ _ _ parent c.in-Refuse.k (sym c.admit_n
 
 pub returns-in-Pass : goal.returns-in-Pass
 returns-in-Pass c =
-    let g = (sym c.admit_node.ensures ∙ c.in-Pass.is) in
+    let g = sym c.admit_node.ensures ∙ c.in-Pass.is in
     node_passed _ _ _ _ _ parent _ g (c.walk_bwd.ensures ∙ parent_is _ _ _ _ (handle_opens _ _ _ (passed_handle _ _ _ _ _ g)))
