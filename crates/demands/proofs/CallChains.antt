@@ -9,7 +9,7 @@ use mathlib.Core.Bool.{Bool, true, false}
 use mathlib.Core.List.{List, [], ◌∷◌, ◌++◌, reverse, reverse-append}
 use Prim.Native.Nat.{ℕ, zero, suc, ◌+◌, ◌-◌}
 use native.Mathlib.Omega.{arith}
-use Rattle.row.specs.Answer.{Answer, at}
+use Rattle.row.specs.Answer.{Answer}
 use Rattle.row.specs.Search.{least, greatest}
 use Rattle.bp_spec.specs.declared.question.Question.{Question}
 use Rattle.demands.specs.Lists.{Names, those}

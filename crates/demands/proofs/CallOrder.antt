@@ -10,7 +10,7 @@ use lib.IntN.{ℤ, negsuc}
 use lib.ListN.{length}
 use Rattle.row.specs.declared.gate.Gate.{Gate}
 use Rattle.row.specs.declared.gate.Gate.TheVariants.{Pass}
-use Rattle.row.specs.Answer.{Answer, at}
+use Rattle.row.specs.Answer.{Answer}
 use Rattle.row.specs.Gates.{handle_gate, through}
 use Rattle.row.specs.Way.{Way, forward, backward}
 use Rattle.mmt_layout.specs.Layout.{nodes_gate}

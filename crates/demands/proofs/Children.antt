@@ -19,7 +19,7 @@ use lib.Dec.{ltb}
 use lib.IntN.{pos, negsuc, ◌+ℤ◌}
 use Rattle.ints.proofs.Linear.{plus, never_true}
 use Rattle.ints.proofs.Shapes.{zsum}
-use Rattle.row.specs.Answer.{Answer, at}
+use Rattle.row.specs.Answer.{Answer}
 use Rattle.row.specs.Excess.{E}
 use Rattle.row.specs.Search.{fwd, bwd}
 use Rattle.row.specs.Tree.{opens, OneTree, Handle}

@@ -9,25 +9,25 @@ use mathlib.Core.Bool.{Bool, true, false, cond, ◌&&◌}
 use mathlib.Core.List.Memᴰ
 use mathlib.Core.List.{List, [], ◌∷◌}
 use mathlib.Core.Logic.{inl, inr}
-use Prim.Native.Nat.{ℕ, ◌*◌, ◌%◌}
+use Prim.Native.Nat.{ℕ, ◌%◌}
 use native.Mathlib.Omega.{arith}
 use borrow.Author.Tests.{ltb-true, leb-true, eqb-true}
 use lib.Dec.{ltb, leb, eqb}
 use lib.IntN.{ℤ}
 use lib.ListN.{length}
 use Rattle.ints.proofs.Linear.{never_true}
-use Rattle.row.specs.declared.refusal.Refusal.TheVariants.{BlockSize as BadBlock, TooManyBits, TooFewWords, TooFewNodes, NotAHandle}
+use Rattle.row.specs.declared.refusal.Refusal.TheVariants.{BlockSize as BadBlock, TooManyBits, TooFewWords, NotAHandle}
 use Rattle.row.specs.declared.gate.Gate.{Gate}
 use Rattle.row.specs.declared.gate.Gate.TheVariants.{Pass, Refuse}
-use Rattle.row.specs.Answer.{Answer, number_of}
-use Rattle.row.specs.Gates.{words_for, row_gate, handle_gate, through, and_then}
+use Rattle.row.specs.Answer.{Answer}
+use Rattle.row.specs.Gates.{row_gate, handle_gate, through, and_then}
 use Rattle.row.specs.Tree.{opens, Handle}
 use Rattle.row.proofs.Gates.{row_many, row_few, row_passed}
-use Rattle.mmt_layout.specs.Layout.{width, count, block_gate, room_gate, nodes_gate, max_block}
+use Rattle.mmt_layout.specs.Layout.{block_gate, nodes_gate, max_block}
 use Rattle.mmt_layout.proofs.Admitted.{block_passed, room_few, gate_block, gate_row, gate_room, fine_gate}
 use Rattle.bp_spec.specs.AncestorCalls.{both_gate}
 use Rattle.demands.specs.First.{BlockSize, InOrder}
-use Rattle.bp_spec.specs.Ranges.{over_nodes, over_row, May, Among}
+use Rattle.bp_spec.specs.Ranges.{over_nodes, over_row, Among}
 use Rattle.row.proofs.Bools.{not_yes}
 
 -- ---- the order of the tests

@@ -1,6 +1,6 @@
 -- SCOPE, The calls: the depth of a handle, the levels, and the children of a handle, for a row that is one tree.
 -- Assumes nothing.
-use Rattle.std.specs.Prelude.{Bool, true, false, ◌&&◌, List, ℕ, ltb, ℤ, pos, negsuc, ◌+ℤ◌}
+use Rattle.std.specs.Prelude.{Bool, false, ◌&&◌, List, ℕ, ltb, ℤ, pos, negsuc, ◌+ℤ◌}
 use Rattle.ints.specs.Order.{eq_z}
 use Rattle.row.specs.Answer.{Answer, at, nothing, refused}
 use Rattle.row.specs.Excess.{E}

@@ -2,7 +2,7 @@
 -- numbers that pass a test.
 -- Assumes nothing.
 use Rattle.std.specs.Prelude.{◌≡◌, Bool, true, cond, ℕ, zero, suc, ◌<◌}
-use mathlib.Core.List.{List, [], ◌∷◌, Memᴰ}
+use mathlib.Core.List.{List, [], ◌∷◌}
 use Rattle.row.specs.Answer.{Answer, at, nothing}
 use Rattle.bp_spec.specs.declared.question.Question.{Question}
 use Rattle.bp_spec.specs.Ranges.{Among}

@@ -12,14 +12,12 @@ use mathlib.Core.Bool.{Bool, true, false, cond, ◌&&◌}
 use mathlib.Core.List.{List}
 use Prim.Native.Nat.{ℕ, ◌+◌, ◌-◌, ◌<◌}
 use native.Mathlib.Omega.{arith}
-use borrow.Author.Tests.{ltb-true}
-use lib.Dec.{ltb, eqb}
+use lib.Dec.{ltb}
 use lib.IntN.{ℤ, negsuc}
 use lib.ListN.{length}
 use Rattle.row.specs.declared.gate.Gate.{Gate}
 use Rattle.row.specs.declared.gate.Gate.TheVariants.{Pass, Refuse}
 use Rattle.row.specs.Answer.{Answer, at, nothing, refused}
-use Rattle.row.specs.Bits.{bit_at}
 use Rattle.row.specs.Gates.{handle_gate, through}
 use Rattle.row.specs.Tree.{opens, closes}
 use Rattle.row.proofs.Tree.{opens_low}

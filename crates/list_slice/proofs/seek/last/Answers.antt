@@ -1,5 +1,4 @@
 -- `list_slice::last` starts a listing with the answer of `last_child`, which tests refusals 1 to 5 itself.
-use Rattle.std.proofs.Common.{rules}
 use Rattle.list_slice.specs.Seek.{sought}
 use Rattle.list_slice.proofs.seek.last.Goals as goal
 
