@@ -3,7 +3,8 @@
 
 usage: tools/turn_edits.py [--check] COMMIT
 
-COMMIT is one whose edits fit the files as they stood there. Run it once, after port.py and respell.py. --check writes nothing.
+COMMIT is one whose edits fit the files as they stood there, with the wider ones in crates/NAME/must-fail/wider. Run it once, after
+port.py and respell.py. --check writes nothing.
 A pair is turned by its words alone; one whose old text is then not found exactly once is listed, and left for the hand.
 """
 import glob

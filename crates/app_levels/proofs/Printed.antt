@@ -1,6 +1,6 @@
 -- What is printed, from what the input encodes.
 --   Outcome, outcome, input_taken: an input that is not refused has at most 4,096 bits and is one tree
---   few_nodes, room_for, not_refused: so its build is not refused; built-lines: and the lines over its nodes are the page by definition
+--   few_nodes, room_for, not_refused: so its build is not refused; built_lines: and the lines over its nodes are the page by definition
 --   printed_tree, printed_refused: the page of a tree, and the line of a refusal
 --   printed_fits: all output fits into 65,536 bytes; printed_front: it depends only on the first 4,097 bytes of the input
 -- Assumes nothing.

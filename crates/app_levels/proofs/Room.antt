@@ -1,7 +1,7 @@
 -- The page fits into 65,536 bytes. Each outline node has one line, and a tree of n bits has n / 2 outline nodes. A line has at most 20 bytes.
 -- The proof bounds it by 30, because it does not rule out a refusal as close and as parent.
 --   places_least, digits_length, decimal_fits: a number below 10^k has at most k digits
---   refusal_fits, answer_fits: the text of a refusal and of an answer; cell-fits, joined, short: parts of a line; line-fits: a line
+--   refusal_fits, answer_fits: the text of a refusal and of an answer; cell_fits, joined, short: parts of a line; line_fits: a line
 --   lines_fit, levels_fit: the lines of a list, and of some levels
 --   hit, hits, hits_past, hits_few: a position is on at most one level, and only if its bit is open
 --   those_next, those_none, tally, tally_none, tally_next, tally_few: so all levels together have at most as many outline nodes as open bits

@@ -1,5 +1,5 @@
 -- The examples of SCOPE, The program `levels`, by computation.
---   prints_five_lines: what `(()(()))` prints; prints-a-refusal: an empty input prints `refused 7`
+--   prints_five_lines: what `(()(()))` prints; prints_a_refusal: an empty input prints `refused 7`
 -- Assumes nothing.
 use mathlib.Core.Path.{◌≡◌, refl}
 use mathlib.Core.List.{[], ◌∷◌, ◌++◌}

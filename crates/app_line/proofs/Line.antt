@@ -1,7 +1,7 @@
 -- Laws about the end of a line, the text of a line, and the one-tree test.
 --   end_here, end_on, end_done: the end of the line from byte i on, if byte i is a newline, is another byte, or does not exist
 --   tree_yes, tree_no, tree_refused, tree_nothing: the answer for a row, from each answer of the one-tree test
---   line_many, words_many: a line that is too long; line_read, words-read: a line that the text reader is passed
+--   line_many, words_many: a line that is too long; line_read, words_read: a line that the text reader is passed
 --   input_refused, input_tree: the answer for the input, from the answers for the line and for the row
 -- Assumes nothing.
 use mathlib.Core.Path.{◌≡◌, refl, ◌∙◌}

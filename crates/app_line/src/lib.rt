@@ -16,7 +16,7 @@ use row::{Read, Refusal, Told};
 
 // Returns the index of the first newline, or the length if there is none.
 pub fn line_end(bytes: &[u8]) -> usize
-    // Two clauses: the prover reads `Counts` by itself where a caller takes a part of the bytes.
+    // Two clauses: the prover reads `IsPrefixLen` by itself where a caller takes a part of the bytes.
     ensures prefix_len { IsPrefixLen result bytes.now }
     ensures value { result ≡ line_end bytes.now }
 {

@@ -1,7 +1,7 @@
 -- Texts that are added to a page one after another, and the number of digits of a number.
 --   take_joined: the first k elements of two joined lists do not depend on the first list after its first k elements
 --   adds_nothing: an empty text; adds_one, adds_none: one byte, if the page has room and if it is full
---   adds_then: one text and then another; adds-front: a text at the front of a page that has room for it
+--   adds_then: one text and then another; adds_front: a text at the front of a page that has room for it
 --   text_step, text_done: a text byte by byte
 --   places_are, few_places, decimal_is: `decimal_of` gives the digits that `io::decimal` writes
 -- Assumes nothing.

@@ -4,7 +4,7 @@
 --   leftmost_none, leftmost_root: `level_leftmost` is nothing on an empty row, and 0 for level 0 of a row with bits
 --   leftmost_far, leftmost_walk: for a level above n it is nothing; for any level but 0 it is what the walk finds
 --   rightmost_far, rightmost_walk: `level_rightmost` for a level above n is nothing, otherwise what follows from its start
--- The theorem that both starts of `level_rightmost` agree is rightmost-right of RightmostStart, in the crate bp_spec.
+-- The theorem that both starts of `level_rightmost` agree is rightmost_right of RightmostStart, in the crate bp_spec.
 -- Assumes nothing.
 use mathlib.Core.Path.{◌≡◌, refl, ◌∙◌}
 use mathlib.Core.Bool.{Bool, true, false, ◌&&◌}

@@ -3,7 +3,7 @@
 --   leb_min: a bound that is cut at m gives the same comparison for numbers of at most m
 --   leaves_fit, nodes_fit: a row of up to 4,096 bits has at most 512 block leaves and needs at most 3,069 entries
 --   row_is, room_is: tests 2 and 3, and test 4, for such a row; too_long: more than 2^32 bits are refusal 2
---   row_all: tests 2 and 3 for any row; short, long, past-block, gate-all: tests 1 to 4 for any row
+--   row_all: tests 2 and 3 for any row; short, long, past_block, gate_all: tests 1 to 4 for any row
 --   over_limit: a bit count above 4,096 is refusal 2 if the block size is not refused
 -- Assumes nothing.
 use mathlib.Core.Path.{◌≡◌, refl, sym, ◌∙◌}

@@ -1,6 +1,6 @@
 -- A call over bytes answers as over all words and node numbers of the bytes. Those that are not decoded never matter.
 --   cut_at: a list that is cut at m has the same entries below m; few: a bit count that passes test 2 is at most 4,096
---   bits_same, rows: the row; nodes-same, both: the node buffer
+--   bits_same, rows: the row; nodes_same, both: the node buffer
 --   crossed_same: every call
 -- Assumes nothing.
 use mathlib.Core.Path.{◌≡◌, sym, ap, ◌∙◌}

@@ -1,6 +1,6 @@
 -- The order in which each call makes its tests.
 --   free_order, search_order: calls over nodes without a handle, and the two searches
---   node_order: calls over nodes with a handle; bare-order: calls with a handle and without nodes
+--   node_order: calls over nodes with a handle; bare_order: calls with a handle and without nodes
 --   order_of: every call
 -- Assumes nothing.
 use mathlib.Core.List.Memᴰ

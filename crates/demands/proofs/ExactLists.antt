@@ -1,5 +1,5 @@
 -- The list `those` has exactly the numbers that pass a test, each once, in rising order.
---   among: every number that passes is in the list; Has, among-has: every number in the list passes
+--   among: every number that passes is in the list; Has, among_has: every number in the list passes
 --   those_rise: the list rises; exact: all three facts
 --   none_those: the list is empty if no number passes
 -- Assumes nothing.

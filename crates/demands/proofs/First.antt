@@ -3,7 +3,7 @@
 --   tree_may, built_may, build_may, read_may: the values and refusals that the two tests, the build and the text reader may give
 --   rooms, rooms_may: the numbers of refusals 1 to 4, and the refusals of an answer after these tests
 --   texts: the numbers of the refusals of the text reader
---   keeps: a gate that refuses keeps the old content; build-leaves, read-leaves: so do a refused build and a refused reading
+--   keeps: a gate that refuses keeps the old content; build_leaves, read_leaves: so do a refused build and a refused reading
 --   first: the demand
 -- Assumes nothing.
 use mathlib.Core.Path.{◌≡◌, refl}

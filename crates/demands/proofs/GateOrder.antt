@@ -1,5 +1,5 @@
 -- The order of the tests before an answer. GateRange of bp_spec has the numbers by which each gate refuses.
---   block_fine, block_bad: test 1; not-handle: test 5
+--   block_fine, block_bad: test 1; not_handle: test 5
 --   Refuses, refuses_one, refuses_both: a gate that refuses by 5 if a number is no handle, for one handle and for two
 --   nodes_order, row_order: a call with nodes, and one without, makes its tests in the order of SCOPE, Refusals
 --   then_passed: a gate with no other gate after it

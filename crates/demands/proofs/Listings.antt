@@ -2,7 +2,7 @@
 --   starting, sibling_call: the first question of a listing, and the question after each handle
 --   held_next: what a listing holds after a step; named: the answers of the steps from a held answer on
 --   begun_named: a constructor whose first question is not refused succeeds
---   first_sought: the first question of a constructor; made-named, steps-named: the constructor and the steps of a listing
+--   first_sought: the first question of a constructor; made_named, steps_named: the constructor and the steps of a listing
 --   answers_step: `list` writes what the steps answer
 -- Assumes nothing.
 use mathlib.Core.Path.{◌≡◌, refl, sym, ap, ◌∙◌}

@@ -2,7 +2,7 @@
 --   next, prev: the first number from a on and below n that passes; the last number below t that passes
 --   next_yes, next_no, prev_yes, prev_no: the same, if the test of one number is known
 --   next_skip, prev_skip: numbers that do not pass are skipped
---   next_is, prev_is: the nearest number that passes; next-none, prev-none: no number passes
+--   next_is, prev_is: the nearest number that passes; next_none, prev_none: no number passes
 --   NearestBelow, nearest: the last number below t that passes, with its properties, or none
 --   prev_same: two tests that agree from a number on that passes both
 -- Assumes nothing.

@@ -2,10 +2,10 @@
 -- rows with the same first n bits. Calls that are not named here read the row only through their searches.
 --   all_same: two tests that agree on the numbers below c; opening, closing: the open bits and the close bits of the row
 --   gate_same: the gate of a handle
---   outward_same: the difference that `enclose` searches; first-child-same, is-leaf-same: calls without a search
+--   outward_same: the difference that `enclose` searches; first_child_same, is_leaf_same: calls without a search
 --   parent_same, last_child_same, next_sibling_same, previous_sibling_same: calls over any pair of searches
 --   leaf_same, from_same, nodes_same: a block leaf, the rule of one min-max node, all min-max nodes
---   written_same: the entries that a build writes; built-same: the as-built test
+--   written_same: the entries that a build writes; built_same: the as-built test
 -- Assumes nothing.
 use mathlib.Core.Path.{◌≡◌, refl, ap, ap₂, ◌∙◌, fun_ext}
 use mathlib.Core.Bool.{Bool, ◌&&◌, cond}

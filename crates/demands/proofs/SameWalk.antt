@@ -1,11 +1,11 @@
 -- The walk reads no bit from position n on and no min-max node after the last one. So it is the same walk over two rows with the same first n
 -- bits and two buffers with the same min-max nodes.
 --   scan_same: a scan inside the row
---   Alike: two buffers have the same first m min-max nodes; asked-same: a step that examines a min-max node, if it exists
---   climb_same: the climb, by induction on the steps allowed; descend-same: the descent, by induction on the levels left
+--   Alike: two buffers have the same first m min-max nodes; asked_same: a step that examines a min-max node, if it exists
+--   climb_same: the climb, by induction on the steps allowed; descend_same: the descent, by induction on the levels left
 --   start_same: the scan of the start block
 --   in_start_same, after_same, land_same, leaf_same: the walk after that scan, after the climb, after the descent, after the target block
---   walk_same: the walk; searches-same: both searches
+--   walk_same: the walk; searches_same: both searches
 -- Assumes nothing.
 use mathlib.Core.Path.{◌≡◌, refl, ap, ◌∙◌}
 use mathlib.Core.Bool.{Bool, true, false, cond}

@@ -1,7 +1,7 @@
 -- Proof of demand 2.
---   tells: a Bool that is true exactly when a fact holds gives a right test; tells-tree, tells-built: the two tests
+--   tells: a Bool that is true exactly when a fact holds gives a right test; tells_tree, tells_built: the two tests
 --   gate: an input that is `Fine` passes refusals 1 to 4
---   left, same, builds: what a build leaves in the buffer; fine-left: the buffer is `Fine` after the build too
+--   left, same, builds: what a build leaves in the buffer; fine_left: the buffer is `Fine` after the build too
 --   ahead_of, behind_of, near_forward, near_backward: the searches by definition answer the nearest position
 --   answers: over nodes as built, every answer equals its definition
 --   second: the demand

@@ -1,6 +1,6 @@
 -- Surplus never matters to an answer. Both rows have enough words and both buffers enough room. So the tests before an answer give the same
 -- result, whatever the bit count and the block size are.
---   row_same, room_same, nodes_gate_same: the tests; first-bits, first-nodes: the bits and the min-max nodes
+--   row_same, room_same, nodes_gate_same: the tests; first_bits, first_nodes: the bits and the min-max nodes
 --   row_alike, nodes_alike: so SameAnswers applies to the rows and the buffers
 --   done_same: the answer of a build; open_at: a gate passes if the answer after it is 0; front: the nodes that a build writes
 --   with, step_same, listing_same: a listing step by step

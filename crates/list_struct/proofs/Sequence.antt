@@ -6,7 +6,7 @@
 --   StepsName: calls name a list of positions one by one and then answer nothing
 --   child_named: such a list has exactly the children, in their order
 --   stepping_answers: the steps of the code answer this sequence
---   listing_built, listing_ends: answers-built and made_ends, for the answers of the code
+--   listing_built, listing_ends: answers_built and made_ends, for the answers of the code
 -- Assumes nothing.
 use mathlib.Core.Path.{◌≡◌, refl, ap, ◌∙◌}
 use mathlib.Core.Bool.{Bool, true, false}

@@ -2,7 +2,7 @@
 --   first: the search for this position; it answers nothing if there is none
 --   first_is: the answer is the least position with this property, or nothing if there is none
 --   first_split: the answer over a..t is the one over a..m, or the one over m..t if the first is nothing
---   first_left, first_right: the two cases of first-split
+--   first_left, first_right: the two cases of first_split
 --   first_at: an answered position lies in the stretch, and the excess after it is v
 --   first_least: no earlier position of the stretch has the excess v after it
 --   first_nothing: if the answer is nothing, no position of the stretch has the excess v after it

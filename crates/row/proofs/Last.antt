@@ -2,7 +2,7 @@
 --   last: the search for this position; it answers nothing if there is none
 --   last_is: the answer is the greatest position with this property, or nothing if there is none
 --   last_split: the answer over a..t is the one over m..t, or the one over a..m if the first is nothing
---   last_right, last_left: the two cases of last-split
+--   last_right, last_left: the two cases of last_split
 --   last_at: an answered position lies in the stretch, and the excess before it is v
 --   last_greatest: no later position of the stretch has the excess v before it
 --   last_nothing: if the answer is nothing, no position of the stretch has the excess v before it

@@ -8,7 +8,7 @@
 --   start_in: the start block is a block of the row
 --   start_leaves: the scan of the start block never leaves the remainder 0
 --   begin: the bits that the search may read are those of the start block and those beyond it
---   node_leaves: a passed node never leaves the remainder 0, so with start-leaves no climb has the remainder 0
+--   node_leaves: a passed node never leaves the remainder 0, so with start_leaves no climb has the remainder 0
 --   walk_forward, walk_backward: the theorem for the two directions
 --   walk_answers: no walk is refused
 -- Assumes nothing.

@@ -10,7 +10,7 @@
 --   bytes_append: the bytes of two lists of words follow one another
 --   over_none: with no word written the bytes are unchanged
 --   over_next: writing word i turns i written words into i + 1
---   over_more: over-next for bytes and a word that are given by equations
+--   over_more: over_next for bytes and a word that are given by equations
 --   over_all: with all words written the bytes are those of the definition
 --   get_d_map: element i of a mapped list is the image of element i
 -- Assumes nothing.

@@ -1,4 +1,4 @@
--- `bits_lookup::byte_total` returns the total of a byte. By the law total-is, for 8 bits, ones minus zeros is the excess. Assumes nothing.
+-- `bits_lookup::byte_total` returns the total of a byte. By the law total_is, for 8 bits, ones minus zeros is the excess. Assumes nothing.
 use native.Mathlib.Omega.{arith}
 use lib.Count.{ones, ones-le}
 use Rattle.bits_lookup.proofs.Counts.{ones_fit, zeros_fit, total_fits, total_is}
