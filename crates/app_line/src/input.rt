@@ -1,5 +1,5 @@
 // Reads the input of a program into a buffer.
-ghost use Rattle.std.specs.Prelude.{◌≡◌, IfOk, IfSome, length, take};
+ghost use Rattle.std.specs.Prelude.{◌≡◌, IfOk, IfSome, OnErr, length, take};
 ghost use Rattle.io.specs.Counts.{IsPrefixLen};
 
 use std::io::{Read, Result};
@@ -10,6 +10,7 @@ pub fn read_full<R: Read>(input: &mut R, bytes: &mut [u8]) -> Result<usize>
     ensures prefix_len { IfOk result (λ n. IsPrefixLen n bytes.new) }
     ensures value { IfOk result (λ n. IfSome (R.remaining input.old)
         (λ xs. take n bytes.new ≡ take (length bytes.old) xs)) }
+    ensures failed { OnErr result (length bytes.new ≡ length bytes.old) }
 {
     let mut done = 0;
     while done < bytes.len() {
