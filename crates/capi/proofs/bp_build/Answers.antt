@@ -18,7 +18,7 @@ use Rattle.capi.proofs.bp_build.Goals as goal
 
 pub returns : goal.returns
 returns c =
-    -- The states of the code after the build, after the bit count and after the room, in reverse order.
+    -- p: the decoded words; q: the bit count; r: the room for node numbers
     let a = c.args in
     let w = c.take_words-w.ensures in
     let m = c.fitting-m in

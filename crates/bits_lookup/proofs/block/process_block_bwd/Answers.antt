@@ -24,7 +24,6 @@ returns-then-holds_back c = rw (to_z-of_z w64 _ c.ranges.r) at c.bits_bwd.ensure
 
 pub returns : goal.returns
 returns c =
-    -- t is the state after the test whether the byte qualifies, m after its summary is computed, s at the entry.
     let t = c in
     let m = t in
     let s = m in

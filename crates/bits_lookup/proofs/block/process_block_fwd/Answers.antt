@@ -22,7 +22,6 @@ overflow_sub-result c =
 
 pub returns : goal.returns
 returns c =
-    -- t is the state after the test whether the byte qualifies, m after its summary is computed, s at the entry.
     let t = c in
     let m = t in
     let s = m in

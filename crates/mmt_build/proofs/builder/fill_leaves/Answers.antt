@@ -22,7 +22,7 @@ put_node-requires c = omega arith
 
 pub loop-b-preserved : goal.loop-b-preserved
 loop-b-preserved c =
-    -- m: the state after `leaf_summary`; t: the state at the head of the loop
+    -- l: the head of the loop; x: the call of `leaf_summary`
     let m = c in
     let t = m in
     let a = t.args in

@@ -27,7 +27,7 @@ put_node-requires c =
 
 pub loop-k-preserved : goal.loop-k-preserved
 loop-k-preserved c =
-    -- w: the state after `wanted`; t: the state at the head of the loop
+    -- l: the head of the loop; x: the call of `wanted`
     let w = c in
     let t = w in
     let s = t in

@@ -6,7 +6,7 @@ use Rattle.wire.proofs.bytes.half.Goals as goal
 pub returns : goal.returns
 unfolding half_at
 returns c =
-    -- k, j and i are the states after the third, the second and the first byte is read; c is the state after the fourth.
+    -- p, q, r and s: what is known of the first to the fourth byte
     let k = c in
     let j = k in
     let i = j in
