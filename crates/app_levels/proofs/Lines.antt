@@ -3,13 +3,13 @@
 --   leads_all, leads_on, leads_end: nothing is put yet; a text is put; nothing is left
 --   found_on, nothing_end, refused_end: the same by the answer of a call
 --   next_is, next_none, levels_is, levels_none: one step of the definitions of the lines
---   level_whole, next_asked, next_found, next_spent: the lines of a level
+--   level_whole, next_start, next_asked, next_found, next_spent: the lines of a level
 --   levels_start, level_asked, level_found, level_spent: the lines of the levels
 --   tree_whole: the page
 -- Assumes nothing.
 use mathlib.Core.Path.{◌≡◌, refl, ◌∙◌}
 use mathlib.Core.List.{List, [], ◌∷◌, ◌++◌}
-use Prim.Native.Nat.{ℕ, zero, suc, ◌+◌, ◌-◌, ◌/◌, ◌≤◌, ◌<◌}
+use Prim.Native.Nat.{ℕ, suc, ◌+◌, ◌-◌, ◌/◌, ◌≤◌, ◌<◌}
 use native.Mathlib.Numerals.{add-one}
 use native.Mathlib.Omega.{arith}
 use lib.IntN.{ℤ}
@@ -56,16 +56,16 @@ module _ (old : List ℕ) (a : ℕ) (whole page : List ℕ) (m : ℕ) where
   refused_end x f k new r q h last = let l : Leads old a whole page m (refusal_line k) = rw q at h in l.leads new r last
 
 module _ (ws : List ℕ) (n : ℕ) (s : List ℤ) (k : ℕ) where
-  next_is : (f v : ℕ) → 0 < f
-      → next_lines ws n s k f v ≡ lines_for (node_answer level_next ws n s 64 v) (λ w. node_line ws n s k w ++ next_lines ws n s k (f - 1) w)
+  -- The lines after the line of v on its level, where i lines are put already.
+  next_is : (i v : ℕ) → i < n
+      → next_lines ws n s k (n - i) v
+      ≡ lines_for (node_answer level_next ws n s 64 v) (λ w. node_line ws n s k w ++ next_lines ws n s k (n - (i + 1)) w)
   unfolding next_lines
-  next_is zero v h = absurd (omega (arith, h))
-  next_is (suc f) v h = let e : suc f - 1 ≡ f = omega arith in rw e refl
+  next_is i v h = let e : n - i ≡ suc (n - (i + 1)) = omega (arith, h) in rw e refl
 
-  next_none : (f v : ℕ) → f ≤ 0 → next_lines ws n s k f v ≡ []
+  next_none : (i v : ℕ) → n ≤ i → next_lines ws n s k (n - i) v ≡ []
   unfolding next_lines
-  next_none zero v h = refl
-  next_none (suc f) v h = absurd (omega (arith, h))
+  next_none i v h = let e : n - i ≡ 0 = omega (arith, h) in rw e refl
 
   levels_is : k < n
       → levels_lines ws n s k (n - k)
@@ -85,18 +85,19 @@ module _ (ws : List ℕ) (n : ℕ) (s : List ℤ) (k : ℕ) where
 
   module _ (old : List ℕ) (a : ℕ) (whole page : List ℕ) (m : ℕ) where
     -- The lines after the line of v on its level.
-    module _ (f v : ℕ) (h : Leads old a whole page m (next_lines ws n s k f v)) where
-      pub next_asked : 0 < f
-          → Leads old a whole page m (lines_for (node_answer level_next ws n s 64 v) (λ w. node_line ws n s k w ++ next_lines ws n s k (f - 1) w))
-      next_asked l = rw (next_is f v l) at h
+    module _ (i v : ℕ) (h : Leads old a whole page m (next_lines ws n s k (n - i) v)) where
+      pub next_asked : i < n
+          → Leads old a whole page m
+          (lines_for (node_answer level_next ws n s 64 v) (λ w. node_line ws n s k w ++ next_lines ws n s k (n - (i + 1)) w))
+      next_asked l = rw (next_is i v l) at h
 
-      pub next_found : 0 < f → (w : ℕ) → node_answer level_next ws n s 64 v ≡ at w → (page' : List ℕ) (m' : ℕ) → length page' ≡ length page
-          → Adds page m (node_line ws n s k w) page' m' → Leads old a whole page' m' (next_lines ws n s k (f - 1) w)
+      pub next_found : i < n → (w : ℕ) → node_answer level_next ws n s 64 v ≡ at w → (page' : List ℕ) (m' : ℕ) → length page' ≡ length page
+          → Adds page m (node_line ws n s k w) page' m' → Leads old a whole page' m' (next_lines ws n s k (n - (i + 1)) w)
       next_found l w q page' m' e one =
-          found_on old a whole page m _ (node_line ws n s k) (next_lines ws n s k (f - 1)) w page' m' q e (next_asked l) one
+          found_on old a whole page m _ (node_line ws n s k) (next_lines ws n s k (n - (i + 1))) w page' m' q e (next_asked l) one
 
-      pub next_spent : f ≤ 0 → Adds old a whole page m
-      next_spent l = leads_end old a whole page m (rw (next_none f v l) at h)
+      pub next_spent : n ≤ i → Adds old a whole page m
+      next_spent l = leads_end old a whole page m (rw (next_none i v l) at h)
 
     -- The lines from level k on.
     module _ (h : Leads old a whole page m (levels_lines ws n s k (n - k))) where
@@ -114,6 +115,9 @@ module _ (ws : List ℕ) (n : ℕ) (s : List ℤ) (k : ℕ) where
       level_spent l = leads_end old a whole page m (rw (levels_none l) at h)
 
 module _ (ws : List ℕ) (n : ℕ) (s : List ℤ) (old : List ℕ) (a : ℕ) where
+  pub next_start : (k v : ℕ) → Leads old a (next_lines ws n s k n v) old a (next_lines ws n s k (n - 0) v)
+  next_start k v = let e : n - 0 ≡ n = omega arith in rw e (leads_all old a (next_lines ws n s k n v))
+
   pub levels_start : Leads old a (levels_lines ws n s 0 n) old a (levels_lines ws n s 0 (n - 0))
   levels_start = let e : n - 0 ≡ n = omega arith in rw e (leads_all old a (levels_lines ws n s 0 n))
 

@@ -22,7 +22,7 @@ use Rattle.text.specs.Text.{all_parentheses, text_words}
 use Rattle.mmt_layout.specs.Layout.{width, leaves, layout_of, count, nodes_gate, Fine}
 use Rattle.mmt_build.specs.Build.{built_nodes}
 use Rattle.mmt_layout.proofs.Powers.{inner_small}
-use Rattle.mmt_layout.proofs.Admitted.{fine_gate}
+use Rattle.mmt_layout.proofs.Gates.{fine_gate}
 use Rattle.demands.proofs.Second.{second}
 use Rattle.demands.proofs.Third.{third}
 use Rattle.app_line.specs.Input.{line_end, line, input_answer, line_words}

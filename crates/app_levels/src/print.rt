@@ -13,7 +13,7 @@ fn put_refused(page: &mut [u8], at: usize, k: Refusal) -> usize
     ensures { Adds page.old at (refused_text (number_of k)) page.new result }
 {
     let next = put_text(page, at, b"refused ");
-    put_number(page, next, row::number(k))
+    put_number(page, next, k.number())
 }
 
 // Puts the line of a refusal.
@@ -37,9 +37,9 @@ fn put_found(page: &mut [u8], at: usize, f: Found) -> usize
     ensures { Adds page.old at (answer_text (paper_found f)) page.new result }
 {
     match f {
-        Found::At(j) => put_number(page, at, j as u64),
-        Found::Nothing => put(page, at, b'-'),
-        Found::Refused(k) => put_refused(page, at, k),
+        Ok(Some(j)) => put_number(page, at, j as u64),
+        Ok(None) => put(page, at, b'-'),
+        Err(k) => put_refused(page, at, k),
     }
 }
 
@@ -83,20 +83,14 @@ fn put_level(
 {
     let mut next = put_node(words, n, nodes, level, first, page, at);
     let mut v = first;
-    let mut left = n;
-    while 0 < left {
-        left -= 1;
+    for _step in 0..n {
         match bp::level_next(words, n, nodes, 64, v) {
-            Found::At(w) => {
+            Ok(Some(w)) => {
                 v = w;
                 next = put_node(words, n, nodes, level, w, page, next);
             }
-            Found::Nothing => {
-                return next;
-            }
-            Found::Refused(k) => {
-                return put_refusal(page, next, k);
-            }
+            Ok(None) => return next,
+            Err(k) => return put_refusal(page, next, k),
         }
     }
     next
@@ -107,20 +101,14 @@ fn put_levels(words: &[u64], n: usize, nodes: &[i64], page: &mut [u8], at: usize
     ensures { Adds page.old at (levels_lines words.now n nodes.now 0 n) page.new result }
 {
     let mut next = at;
-    let mut level = 0;
-    while level < n {
+    for level in 0..n {
         match bp::level_leftmost(words, n, nodes, 64, level as u64) {
-            Found::At(v) => {
+            Ok(Some(v)) => {
                 next = put_level(words, n, nodes, level as u64, v, page, next);
             }
-            Found::Nothing => {
-                return next;
-            }
-            Found::Refused(k) => {
-                return put_refusal(page, next, k);
-            }
+            Ok(None) => return next,
+            Err(k) => return put_refusal(page, next, k),
         }
-        level += 1;
     }
     next
 }

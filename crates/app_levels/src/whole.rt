@@ -5,7 +5,6 @@ ghost use Rattle.app_levels.specs.Printed.{printed, page_bytes, ShortTree};
 ghost use Rattle.app_levels.specs.Outline.{defined_lines};
 
 use crate::print::{put_refusal, put_tree};
-use row::{Built, Read};
 
 // Builds the nodes of a tree and puts its lines. Blocks of 64 give at most 64 block leaves and 63 inner nodes: 3 * 127 = 381 entries.
 fn put_built(words: &[u64; 64], n: usize, page: &mut [u8]) -> usize
@@ -14,8 +13,8 @@ fn put_built(words: &[u64; 64], n: usize, page: &mut [u8]) -> usize
 {
     let mut nodes = [0i64; 381];
     match mmt_build::build(words, n, &mut nodes, 64) {
-        Built::Done => put_tree(words, n, &nodes, page),
-        Built::Refused(k) => put_refusal(page, 0, k),
+        Ok(()) => put_tree(words, n, &nodes, page),
+        Err(k) => put_refusal(page, 0, k),
     }
 }
 
@@ -27,7 +26,7 @@ pub fn put_answer(bytes: &[u8], page: &mut [u8]) -> usize
 {
     let mut words = [0u64; 64];
     match app_line::read_tree(bytes, &mut words) {
-        Read::Bits(n) => put_built(&words, n, page),
-        Read::Refused(k) => put_refusal(page, 0, k),
+        Ok(n) => put_built(&words, n, page),
+        Err(refusal) => put_refusal(page, 0, refusal),
     }
 }

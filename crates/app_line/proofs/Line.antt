@@ -1,13 +1,13 @@
 -- Laws about the end of a line, the text of a line, and the one-tree test.
---   end_here, end_on, end_done: the end of the line from byte i on, if byte i is a newline, is another byte, or does not exist
---   tree_yes, tree_no, tree_refused, tree_nothing: the answer for a row, from each answer of the one-tree test
+--   end_first: the end of the line is the first newline
+--   tree_yes, tree_no, tree_nothing, tree_refused, tree_told: the answer for a row, from each answer of the one-tree test
 --   line_many, words_many: a line that is too long; line_read, words_read: a line that the text reader is passed
 --   input_refused, input_tree: the answer for the input, from the answers for the line and for the row
 -- Assumes nothing.
-use mathlib.Core.Path.{◌≡◌, refl, ◌∙◌}
-use mathlib.Core.Bool.{Bool, true, false}
-use mathlib.Core.List.{List}
-use Prim.Native.Nat.{ℕ, suc, ◌+◌, ◌≤◌, ◌<◌}
+use mathlib.Core.Path.{◌≡◌, refl, ap, ◌∙◌}
+use mathlib.Core.Bool.{Bool, true, false, cond, beq}
+use mathlib.Core.List.{List, [], ◌∷◌}
+use Prim.Native.Nat.{ℕ, zero, suc, ◌+◌, ◌≤◌, ◌<◌}
 use native.Mathlib.Numerals.{add-one}
 use native.Mathlib.Omega.{arith}
 use borrow.Author.Tests.{eq-eqb, ne_eqb, le-leb, lt-leb, leb-true}
@@ -15,9 +15,10 @@ use lib.Dec.{leb}
 use lib.ListN.{length, get_or, drop, drop_of_length-le}
 use lib.Seq.{drop-cons}
 use Rattle.row.specs.Limits.{max_short_bits}
-use Rattle.row.specs.declared.gate.Gate.{Gate}
-use Rattle.row.specs.declared.gate.Gate.TheVariants.{Pass, Refuse}
-use Rattle.row.specs.Answer.{at, nothing, refused}
+use Rattle.row.specs.Gates.{Gate}
+use Rattle.std.specs.Prelude.{Option, Some, None, Ok, Err}
+use Rattle.std.specs.Option.{option_eq}
+use Rattle.row.specs.Answer.{at, nothing, refused, paper_told}
 use Rattle.row.specs.Gates.{row_gate, through}
 use Rattle.row.specs.Tree.{one_tree}
 use Rattle.row.proofs.Gates.{row_passed}
@@ -26,55 +27,58 @@ use Rattle.text.specs.Text.{all_parentheses, text_gate, text_words}
 use Rattle.text.proofs.Text.{text_other, text_row}
 use Rattle.app_line.specs.Input.{line_end, line, line_answer, line_words, tree_answer, input_answer}
 
-module _ (s : List ℕ) (i : ℕ) where
-  pub end_here : i < length s → get_or s i 0 ≡ 10 → line_end (drop i s) ≡ 0
-  unfolding line_end
-  end_here h e = rw (drop-cons s i 0) (simp (eq-eqb (get_or s i 0) 10 e))
-
-  pub end_on : i < length s → (get_or s i 0 ≡ 10 → ⊥) → line_end (drop i s) ≡ suc (line_end (drop (i + 1) s))
-  unfolding line_end
-  end_on h e = rw (add-one, drop-cons s i 0) (simp (ne_eqb (get_or s i 0) 10 e))
-
-  pub end_done : length s ≤ i → line_end (drop i s) ≡ 0
-  unfolding line_end
-  end_done h = rw (drop_of_length-le s)
+-- No byte before r is a newline, and byte r is one unless r is the length.
+pub end_first : (s : List ℕ) (r : ℕ) → r ≤ length s → ((k : ℕ) → k < r → get_or s k 0 ≡ 10 → ⊥) → (r < length s → get_or s r 0 ≡ 10) → r ≡ line_end s
+unfolding line_end
+end_first [] r h before here = omega arith
+end_first (b ∷ s) zero h before here = simp (eq-eqb b 10 (here (omega arith)))
+end_first (b ∷ s) (suc r) h before here =
+    simp (ne_eqb b 10 (before 0 (omega arith)))
+    (ap suc (end_first s r (omega arith) (λ k l. before (suc k) (omega arith)) (λ l. here (omega arith))))
 
 module _ (ws : List ℕ) (n : ℕ) where
-  pub tree_yes : at 1 ≡ one_tree_answer ws n → at n ≡ tree_answer ws n
+  tree_yes : at 1 ≡ one_tree_answer ws n → at n ≡ tree_answer ws n
   unfolding one_tree_answer tree_answer
   tree_yes h = by (row_gate (length ws) n) refl (one_tree ws n) refl
     where
       by : (g : Gate) → row_gate (length ws) n ≡ g → (b : Bool) → one_tree ws n ≡ b → at n ≡ tree_answer ws n
-      by Pass g true b = simp (g, b)
-      by Pass g false b = cc (h, g, b)
-      by (Refuse k) g b e = cc (h, g)
+      by (Ok tt) g true b = simp (g, b)
+      by (Ok tt) g false b = cc (h, g, b)
+      by (Err k) g b e = cc (h, g)
 
-  pub tree_no : at 0 ≡ one_tree_answer ws n → refused 7 ≡ tree_answer ws n
+  tree_no : at 0 ≡ one_tree_answer ws n → refused 7 ≡ tree_answer ws n
   unfolding one_tree_answer tree_answer
   tree_no h = by (row_gate (length ws) n) refl (one_tree ws n) refl
     where
       by : (g : Gate) → row_gate (length ws) n ≡ g → (b : Bool) → one_tree ws n ≡ b → refused 7 ≡ tree_answer ws n
-      by Pass g true b = cc (h, g, b)
-      by Pass g false b = simp (g, b)
-      by (Refuse k) g b e = cc (h, g)
+      by (Ok tt) g true b = cc (h, g, b)
+      by (Ok tt) g false b = simp (g, b)
+      by (Err k) g b e = cc (h, g)
 
   pub tree_refused : (k : ℕ) → refused k ≡ one_tree_answer ws n → refused k ≡ tree_answer ws n
   unfolding one_tree_answer tree_answer
   tree_refused k h = by (row_gate (length ws) n) refl (one_tree ws n) refl
     where
       by : (g : Gate) → row_gate (length ws) n ≡ g → (b : Bool) → one_tree ws n ≡ b → refused k ≡ tree_answer ws n
-      by Pass g true b = cc (h, g, b)
-      by Pass g false b = cc (h, g, b)
-      by (Refuse r) g b e = cc (h, g)
+      by (Ok tt) g true b = cc (h, g, b)
+      by (Ok tt) g false b = cc (h, g, b)
+      by (Err r) g b e = cc (h, g)
 
-  pub tree_nothing : nothing ≡ one_tree_answer ws n → refused 7 ≡ tree_answer ws n
+  tree_nothing : nothing ≡ one_tree_answer ws n → refused 7 ≡ tree_answer ws n
   unfolding one_tree_answer tree_answer
   tree_nothing h = by (row_gate (length ws) n) refl (one_tree ws n) refl
     where
       by : (g : Gate) → row_gate (length ws) n ≡ g → (b : Bool) → one_tree ws n ≡ b → refused 7 ≡ tree_answer ws n
-      by Pass g true b = cc (h, g, b)
-      by Pass g false b = cc (h, g, b)
-      by (Refuse r) g b e = cc (h, g)
+      by (Ok tt) g true b = cc (g, b)
+      by (Ok tt) g false b = cc (h, g, b)
+      by (Err r) g b e = cc (h, g)
+
+  -- The same, where the answer is only compared with yes.
+  pub tree_told : (r : Option Bool) (t : Bool) → t ≡ option_eq beq r (Some true) → paper_told (Ok r) ≡ one_tree_answer ws n
+      → cond t (at n) (refused 7) ≡ tree_answer ws n
+  tree_told (Some true) t e h = rw e (tree_yes h)
+  tree_told (Some false) t e h = rw e (tree_no h)
+  tree_told None t e h = rw e (tree_nothing h)
 
 module _ (s : List ℕ) where
   pub line_many : max_short_bits < line_end s → refused 2 ≡ line_answer s
@@ -98,7 +102,7 @@ module _ (s ws : List ℕ) where
       by : (b : Bool) → all_parentheses (line s) ≡ b → through (text_gate (line s) (length ws)) (at (length (line s))) ≡ line_answer s
       by true e =
           let o = row_passed (length ws) (length (line s)) (omega (arith, l)) (omega (arith, l, w)) in
-          let g : Pass ≡ text_gate (line s) (length ws) = o ∙ text_row (line s) (length ws) (omega (arith, l)) e in
+          let g : (Ok tt) ≡ text_gate (line s) (length ws) = o ∙ text_row (line s) (length ws) (omega (arith, l)) e in
           rw (← g) (simp (le-leb (line_end s) max_short_bits h, e, l))
       by false e =
           let g = text_other (line s) (length ws) (omega (arith, l)) e in

@@ -13,6 +13,7 @@ pub fn read_full<R: Read>(input: &mut R, bytes: &mut [u8]) -> Result<usize>
     ensures failed { OnErr result (length bytes.new ≡ length bytes.old) }
 {
     let mut done = 0;
+    // No range counts these reads: each one fills a part of a length that only the reader knows.
     while done < bytes.len() {
         let count = input.read(&mut bytes[done..])?;
         if count == 0 {

@@ -12,7 +12,7 @@ ghost use Rattle.app_line.specs.Input.{line_end, line_answer, line_words, Admits
 mod input;
 
 pub use input::read_full;
-use row::{Read, Refusal, Told};
+use row::Refusal;
 
 // Returns the index of the first newline, or the length if there is none.
 pub fn line_end(bytes: &[u8]) -> usize
@@ -20,49 +20,41 @@ pub fn line_end(bytes: &[u8]) -> usize
     ensures prefix_len { IsPrefixLen result bytes.now }
     ensures value { result ≡ line_end bytes.now }
 {
-    let mut i = 0;
-    while i < bytes.len() {
-        if bytes[i] == b'\n' {
-            return i;
-        }
-        i += 1;
-    }
-    i
+    bytes
+        .iter()
+        .position(|&b| b == b'\n')
+        .unwrap_or(bytes.len())
 }
 
 // Reads the text of the line into the words, with refusals 2 and 6. The program passes at most 4,097 bytes: 4,097 bytes without a newline are
 // refusal 2, whatever they are.
-fn read_line(bytes: &[u8], words: &mut [u64; 64]) -> Read
+fn read_line(bytes: &[u8], words: &mut [u64; 64]) -> Result<usize, Refusal>
     ensures { Writes (paper_read result) (line_answer bytes.now)
         words.new (line_words bytes.now words.old) }
 {
     let end = line_end(bytes);
     if row::MAX_SHORT_BITS < end {
-        return Read::Refused(Refusal::TooManyBits);
+        return Err(Refusal::TooManyBits);
     }
     text::read_text(&bytes[..end], words)
 }
 
 // Refuses a row that is not one tree by 7. The second promise states the length of the array: the proof of `read_tree` needs it and can take it
 // only from here.
-fn admit_tree(words: &[u64; 64], n: usize) -> Read
+fn admit_tree(words: &[u64; 64], n: usize) -> Result<usize, Refusal>
     ensures { Admits (paper_read result) words.now n }
 {
-    match one_tree::one_tree(words, n) {
-        Told::Yes => Read::Bits(n),
-        Told::Refused(k) => Read::Refused(k),
-        Told::No => Read::Refused(Refusal::NotOneTree),
-        Told::Nothing => Read::Refused(Refusal::NotOneTree),
+    if one_tree::one_tree(words, n)? == Some(true) {
+        return Ok(n);
     }
+    Err(Refusal::NotOneTree)
 }
 
 // Reads one tree into the words. Returns its number of bits, or the refusal.
-pub fn read_tree(bytes: &[u8], words: &mut [u64; 64]) -> Read
+pub fn read_tree(bytes: &[u8], words: &mut [u64; 64]) -> Result<usize, Refusal>
     ensures { Writes (paper_read result) (input_answer bytes.now words.old)
         words.new (line_words bytes.now words.old) }
 {
-    match read_line(bytes, words) {
-        Read::Refused(k) => Read::Refused(k),
-        Read::Bits(n) => admit_tree(words, n),
-    }
+    let n = read_line(bytes, words)?;
+    admit_tree(words, n)
 }

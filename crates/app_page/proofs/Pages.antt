@@ -2,7 +2,6 @@
 --   take_joined: the first k elements of two joined lists do not depend on the first list after its first k elements
 --   adds_nothing: an empty text; adds_one, adds_none: one byte, if the page has room and if it is full
 --   adds_then: one text and then another; adds_front: a text at the front of a page that has room for it
---   text_step, text_done: a text byte by byte
 --   places_are, few_places, decimal_is: `decimal_of` gives the digits that `io::decimal` writes
 -- Assumes nothing.
 use mathlib.Core.Path.{◌≡◌, refl, sym, ap, ◌∙◌}
@@ -15,8 +14,8 @@ use native.Mathlib.Numerals.{add-one}
 use native.Mathlib.Omega.{arith}
 use borrow.Author.Tests.{ltb-true, ltb-false, leb-true, leb-false}
 use lib.Dec.{ltb, leb}
-use lib.ListN.{length, get_or, take, set, length-append}
-use lib.Seq.{length-take-le, take_all, take-suc, take-suc-set, take-append_seam}
+use lib.ListN.{length, take, set, length-append}
+use lib.Seq.{length-take-le, take_all, take-suc-set, take-append_seam}
 use Rattle.io.specs.Digits.{last_digits, IsDigitCount}
 use Rattle.app_page.specs.Page.{Adds, places, decimal_of}
 
@@ -61,16 +60,6 @@ adds_front old new text r e h one =
     let p = one (omega arith) in
     let t : take r new ≡ text = p.1 ∙ take_all (length old) text h in
     (sym (length-take-le r new (omega (arith, e, p.0))) ∙ ap length t, t)
-
--- A text byte by byte: byte i is put after the first i bytes.
-pub text_step : (old page new text : List ℕ) (a i at' r : ℕ) → i < length text → length page ≡ length old
-    → Adds old a (take i text) page at' → Adds page at' (get_or text i 0 ∷ []) new r → Adds old a (take (i + 1) text) new r
-text_step old page new text a i at' r h e one two =
-    let t : take i text ++ (get_or text i 0 ∷ []) ≡ take (i + 1) text = rw add-one (sym (take-suc text i 0 h)) in
-    rw t at (adds_then old page new (take i text) (get_or text i 0 ∷ []) a at' r e one two)
-
-pub text_done : (old page text : List ℕ) (a i at' : ℕ) → length text ≤ i → Adds old a (take i text) page at' → Adds old a text page at'
-text_done old page text a i at' k inv = rw (take_all i text k) at inv
 
 pub places_are : (n k j f : ℕ) → IsDigitCount 10 1 n k → 1 ≤ j → j ≤ k → k ≤ j + f → places n j f ≡ k
 unfolding places

@@ -20,14 +20,11 @@ pub fn put(page: &mut [u8], at: usize, b: u8) -> usize
 }
 
 // Puts a text, as far as the page goes.
-pub fn put_text(page: &mut [u8], at: usize, text: &[u8]) -> usize
+pub fn put_text(page: &mut [u8], mut at: usize, text: &[u8]) -> usize
     ensures { Adds page.old at text.now page.new result }
 {
-    let mut at = at;
-    let mut i = 0;
-    while i < text.len() {
-        at = put(page, at, text[i]);
-        i += 1;
+    for &b in text {
+        at = put(page, at, b);
     }
     at
 }
@@ -46,8 +43,5 @@ pub fn filled(page: &[u8], at: usize) -> usize
     ensures prefix_len { IsPrefixLen result page.now }
     ensures value { result ≡ min at (length page.now) }
 {
-    if page.len() < at {
-        return page.len();
-    }
-    at
+    at.min(page.len())
 }

@@ -1,11 +1,10 @@
 -- Bits of one word are bits of the row.
---   hit_within: a hit of a scan is below the end of the bits that it reads
 --   Lies: the claim that a stretch of the row is a stretch of one word
 --   edge_lies: a stretch with the bounds `InWord` satisfies this claim
 --   word_scan: a scan of these bits of the word, with its hit moved, is a scan of the row
 --   word_summary: the summary of these bits of the word is that of the bits of the row
 -- Assumes nothing.
-use mathlib.Core.Path.{◌≡◌, refl, sym, ap, ◌∙◌}
+use mathlib.Core.Path.{◌≡◌, sym, ap, ◌∙◌}
 use mathlib.Core.List.{List}
 use Prim.Native.Nat.{ℕ, ◌+◌, ◌-◌, ◌*◌, ◌/◌, ◌%◌, ◌≤◌, ◌<◌}
 use native.Mathlib.Omega.{arith}
@@ -14,17 +13,12 @@ use lib.IntN.{ℤ}
 use Rattle.row.specs.Bits.{digit, bit_at}
 use Rattle.row.specs.Way.{Way}
 use Rattle.row.proofs.Digits.{word_bits}
-use Rattle.bits_stretch.specs.declared.bits.Scanned.{Scanned}
-use Rattle.bits_stretch.specs.declared.bits.Scanned.TheVariants.{Hit}
+use Rattle.bits_stretch.specs.Scan.{Scanned}
 use Rattle.bits_stretch.specs.Summary.{summary_of}
-use Rattle.bits_stretch.specs.Scan.{scan}
+use Rattle.bits_stretch.specs.Scan.{scan, moved}
 use Rattle.bits_stretch.proofs.Full.{summary_ext}
-use Rattle.bits_stretch.proofs.Parts.{moved, scan_shift}
-use Rattle.bits_stretch.proofs.Meets.{scan_nearest}
+use Rattle.bits_stretch.proofs.Parts.{scan_shift}
 use Rattle.bits_edge.specs.Parts.{InWord}
-
-pub hit_within : (w : Way) (f : ℕ → ℕ) (c a : ℕ) (r : ℤ) {k : ℕ} → Hit k ≡ scan w f c a r → k < a + c
-hit_within w f c a r e = (rw (sym e) at (scan_nearest f _ w c a r refl)).0.1
 
 -- The c bits of the row from a on are the p bits of word i from b on.
 pub record Lies (c a i p b : ℕ) : Type 0 where

@@ -1,4 +1,4 @@
-// Scans and the summary of a few bits of a row that lie in one word: those before the first and after the last whole byte of a stretch.
+// The scan and the summary of a few bits of a row that lie in one word: those before the first and after the last whole byte of a stretch.
 //
 // These bits are fewer than eight. So they are read one by one from a single word, and no lookup table is needed. A search reads the
 // bits at its start this way, before it creates the table.
@@ -8,41 +8,23 @@
 
 ghost use Rattle.std.specs.Prelude.{◌≡◌, ◌-◌, ◌<◌, length};
 ghost use Rattle.row.specs.Bits.{bit_at};
-ghost use Rattle.row.specs.Way.{forward, backward};
 ghost use Rattle.bits_stretch.specs.Summary.{summary_of};
 ghost use Rattle.bits_stretch.specs.Scan.{scan};
 ghost use Rattle.bits_edge.specs.Parts.{InWord, EdgeScan};
 
-use bits_stretch::{Scanned, Summary};
+use bits_stretch::{Direction, Scanned, Summary};
 
-// Scans bits `from` to `to` - 1 of a row forward. They lie in one word.
-pub fn edge_fwd(words: &[u64], from: usize, to: usize, r: i64) -> Scanned
+// Scans bits `from` to `to` - 1 of a row. They lie in one word.
+pub fn scan_edge<D: Direction>(words: &[u64], from: usize, to: usize, r: i64) -> Scanned
     requires { EdgeScan (length words.now) from to r }
-    ensures { result ≡ scan forward (bit_at words.now) (to - from) from r }
+    ensures { result ≡ scan D.way (bit_at words.now) (to - from) from r }
 {
     if to <= from {
-        return Scanned::Left(r);
+        return Scanned::Continue(r);
     }
     let i = from / 64;
-    match bits_stretch::bits_fwd(words[i], from % 64, to - 64 * i, r) {
-        Scanned::Hit(j) => Scanned::Hit(64 * i + j),
-        Scanned::Left(q) => Scanned::Left(q),
-    }
-}
-
-// Scans bits `to` - 1 down to `from` of a row. They lie in one word.
-pub fn edge_bwd(words: &[u64], from: usize, to: usize, r: i64) -> Scanned
-    requires { EdgeScan (length words.now) from to r }
-    ensures { result ≡ scan backward (bit_at words.now) (to - from) from r }
-{
-    if to <= from {
-        return Scanned::Left(r);
-    }
-    let i = from / 64;
-    match bits_stretch::bits_bwd(words[i], from % 64, to - 64 * i, r) {
-        Scanned::Hit(j) => Scanned::Hit(64 * i + j),
-        Scanned::Left(q) => Scanned::Left(q),
-    }
+    let y = bits_stretch::scan_bits::<D>(words[i], from % 64, to - 64 * i, r);
+    bits_stretch::moved(y, 64 * i)
 }
 
 // Returns the summary of bits `from` to `to` - 1 of a row, at least one bit. They lie in one word.

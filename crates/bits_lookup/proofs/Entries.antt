@@ -1,31 +1,23 @@
 -- A table entry gives back the least and the greatest that it encodes.
---   entry_of: the entry of a byte encodes the summary of its eight bits
 --   from_start: the total of the first c bits is their excess
 --   entry_least: the upper part of an entry, minus 8, is the least
 --   entry_greatest: the lower part of an entry, minus 8, is the greatest
 -- Assumes nothing.
 use mathlib.Core.Path.{◌≡◌, ap, ◌∙◌}
-use mathlib.Core.List.{List}
-use Prim.Native.Nat.{ℕ, ◌+◌, ◌/◌, ◌%◌, ◌≤◌, ◌<◌}
+use Prim.Native.Nat.{ℕ, ◌+◌, ◌/◌, ◌%◌, ◌≤◌}
 use native.Mathlib.Omega.{arith}
 use native.Mathlib.Nat.{zero-add}
-use lib.ListN.{get_or}
 use lib.IntN.{ℤ, pos, negsuc, nat_abs, ◌+ℤ◌, ◌-ℤ◌}
 use Rattle.ints.specs.Sides.{up, dn, size}
 use Rattle.ints.proofs.Linear.{plus, diff}
 use Rattle.ints.proofs.Shapes.{zsum}
-use Rattle.row.specs.Bits.{digit}
 use Rattle.row.specs.Excess.{excess}
 use Rattle.row.proofs.Excess.{excess_ext}
 use Rattle.bits_stretch.specs.declared.summary.Summary.{Summary}
 use Rattle.bits_stretch.specs.Summary.{summary_of}
 use Rattle.bits_stretch.proofs.Full.{Sized}
 use Rattle.bits_stretch.proofs.Covers.{summary_total}
-use Rattle.bits_lookup.specs.Table.{encoded, IsTable}
-
-pub entry_of : (t : List ℕ) (b : ℕ) → IsTable t → b < 256 → get_or t b 0 ≡ encoded (summary_of (digit b) 0 8)
-unfolding IsTable
-entry_of t b h l = h b l
+use Rattle.bits_lookup.specs.Table.{encoded}
 
 pub from_start : (f : ℕ → ℕ) (c : ℕ) → (summary_of f 0 c).total ≡ excess f c
 from_start f c = summary_total f 0 c ∙ excess_ext (λ k. f (0 + k)) f c (λ k l. ap f (zero-add k))

@@ -10,5 +10,5 @@ unfoldable pub encoded : Summary → ℕ
 encoded x = nat_abs (x.least +ℤ pos 8) * 32 + nat_abs (x.greatest +ℤ pos 8)
 
 -- Each byte has the entry for the summary of its 8 bits, the first bit being the least significant one.
-unfoldable pub IsTable : List ℕ → Type 0
+abbrev pub IsTable : List ℕ → Type 0
 IsTable t = (b : ℕ) → b < 256 → get_or t b 0 ≡ encoded (summary_of (digit b) 0 8)

@@ -3,11 +3,19 @@
 //
 // A `const` is copied into the frame of each function that reads it. So the function that needs the table creates it once and
 // passes it on as a `Lookup`.
-ghost use Rattle.bits_lookup.specs.Table.{IsTable};
+ghost use Rattle.std.specs.Prelude.{◌≡◌};
+ghost use Rattle.row.specs.Bits.{digit};
+ghost use Rattle.bits_stretch.specs.Summary.{summary_of};
+ghost use Rattle.bits_lookup.specs.Table.{encoded, IsTable};
 
-pub type Lookup = [u16; 256];
+// The byte lookup. The table of every `Lookup` is right.
+#[derive(Clone, Copy)]
+pub struct Lookup {
+    entries: [u16; 256],
+    ghost table: { IsTable entries },
+}
 
-const TABLE: Lookup = [
+const TABLE: [u16; 256] = [
     7, 73, 72, 138, 71, 137, 137, 203, 71, 137, 136, 202, 136, 202, 202, 268, 71, 137, 136, 202,
     135, 201, 201, 267, 135, 201, 201, 267, 201, 267, 235, 301, 71, 137, 136, 202, 135, 201, 201,
     267, 135, 201, 200, 266, 200, 266, 234, 300, 135, 201, 200, 266, 200, 266, 234, 300, 168, 234,
@@ -24,9 +32,16 @@ const TABLE: Lookup = [
     170, 236, 236, 302, 204, 270, 238, 304,
 ];
 
-// Returns the table, to be passed to the other functions of this crate.
-pub fn table() -> Lookup
-    ensures { IsTable result }
-{
-    TABLE
+impl Lookup {
+    // Creates the lookup, to be passed to all that reads bytes.
+    pub fn new() -> Lookup {
+        Lookup { entries: TABLE }
+    }
+
+    // Returns the entry of the byte b.
+    pub fn entry(&self, b: u8) -> u16
+        ensures { result ≡ encoded (summary_of (digit b) 0 8) }
+    {
+        self.entries[b as usize]
+    }
 }

@@ -1,7 +1,7 @@
 // Eight bits at a time: the summary of a byte by a lookup table, and the scan of a byte (SCOPE, The byte lookup).
 //
-// The promises speak only of the bits of the byte, not of the table. A caller creates the table with `table` and passes it to the
-// other functions. No other crate reads its entries.
+// The promises speak only of the bits of the byte, not of the table. A caller creates a `Lookup` once and passes it on. That its table is
+// right is an invariant of the type.
 //
 // The functions refuse nothing. Callers keep the bounds that a `requires` states.
 #![tactic(auto)]
@@ -10,6 +10,5 @@ mod block;
 mod encoding;
 mod summary;
 
-pub use block::{process_block_bwd, process_block_fwd};
-pub use encoding::{Lookup, table};
-pub use summary::{byte_summary, word_total};
+pub use encoding::Lookup;
+pub use summary::word_total;

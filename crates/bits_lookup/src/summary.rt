@@ -3,7 +3,6 @@ ghost use Rattle.std.specs.Prelude.{◌≡◌, pos, ◌-ℤ◌};
 ghost use Rattle.row.specs.Bits.{digit};
 ghost use Rattle.row.specs.Excess.{excess};
 ghost use Rattle.bits_stretch.specs.Summary.{summary_of};
-ghost use Rattle.bits_lookup.specs.Table.{IsTable};
 
 use crate::encoding::Lookup;
 use bits_stretch::Summary;
@@ -25,7 +24,8 @@ fn byte_total(b: u8) -> i64
     ones - zeros
 }
 
-// Returns the total of a word: its ones minus its zeros.
+// Returns the total of a word: its ones minus its zeros. SCOPE requires this form for a byte. One function for both widths would need a
+// trait with two impls to save one line.
 pub fn word_total(w: u64) -> i64
     ensures { result ≡ excess (digit w) 64 }
 {
@@ -34,15 +34,16 @@ pub fn word_total(w: u64) -> i64
     ones - zeros
 }
 
-// Returns the summary of the byte b.
-pub fn byte_summary(t: &Lookup, b: u8) -> Summary
-    requires { IsTable t.now }
-    ensures { result ≡ summary_of (digit b) 0 8 }
-{
-    let e = t[b as usize];
-    Summary {
-        total: byte_total(b),
-        least: lowered(e / 32),
-        greatest: lowered(e % 32),
+impl Lookup {
+    // Returns the summary of the byte b.
+    pub fn byte_summary(&self, b: u8) -> Summary
+        ensures { result ≡ summary_of (digit b) 0 8 }
+    {
+        let e = self.entry(b);
+        Summary {
+            total: byte_total(b),
+            least: lowered(e / 32),
+            greatest: lowered(e % 32),
+        }
     }
 }

@@ -2,10 +2,9 @@
 --   byte_summary: the summary of byte q is that of the eight bits of the row from 8q on
 --   bytes_first: the loop invariant holds after the first byte
 --   bytes_next: joining the summary of byte k extends the summary of bytes `from` to k - 1 to byte k
---   whole_summary: if a stretch ends at a byte boundary, the summary of its whole bytes is that of the stretch
---   tail_summary: otherwise it is the summary of the whole bytes, joined with that of the bits after them
+--   tail_summary: if a stretch does not end at a byte boundary, its summary is that of its whole bytes, joined with that of the bits after them
 -- Assumes nothing.
-use mathlib.Core.Path.{◌≡◌, sym, ap, ap₂, ◌∙◌}
+use mathlib.Core.Path.{◌≡◌, sym, ap, ◌∙◌}
 use mathlib.Core.List.{List}
 use Prim.Native.Nat.{ℕ, ◌+◌, ◌-◌, ◌*◌, ◌/◌, ◌%◌, ◌<◌}
 use native.Mathlib.Nat.{zero-add}
@@ -31,14 +30,6 @@ module _ (ws : List ℕ) where
   bytes_next from k h =
       ap (join_of (summary_of (bit_at ws) (8 * from) (8 * (k - from)))) (byte_summary k)
       ∙ more (8 * from) (8 * k) (8 * (k - from)) 8 (8 * ((k + 1) - from)) (omega arith) (omega arith) (omega arith) (omega arith)
-
-  -- The stretch begins and ends at a byte boundary.
-  pub whole_summary : (from to : ℕ) → from % 8 ≡ 0 → to % 8 ≡ 0
-      → summary_of (bit_at ws) (8 * (from / 8)) (8 * (to / 8 - from / 8)) ≡ summary_of (bit_at ws) from (to - from)
-  whole_summary from to e f =
-      let p : 8 * (from / 8) ≡ from = omega arith in
-      let q : 8 * (to / 8 - from / 8) ≡ to - from = omega arith in
-      ap₂ (summary_of (bit_at ws)) p q
 
   pub tail_summary : (from to : ℕ) → from % 8 ≡ 0 → from / 8 < to / 8 → 8 * (to / 8) < to
       → join_of (summary_of (bit_at ws) (8 * (from / 8)) (8 * (to / 8 - from / 8))) (summary_of (bit_at ws) (8 * (to / 8)) (to - 8 * (to / 8))) ≡ summary_of (bit_at ws) from (to - from)

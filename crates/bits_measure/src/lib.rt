@@ -10,7 +10,6 @@ ghost use Rattle.std.specs.Prelude.{◌≡◌, ◌+◌, ◌-◌, ◌*◌, ◌%�
 ghost use Rattle.row.specs.Limits.{max_bits, max_bytes};
 ghost use Rattle.row.specs.Bits.{bit_at};
 ghost use Rattle.bits_stretch.specs.Summary.{summary_of};
-ghost use Rattle.bits_lookup.specs.Table.{IsTable};
 ghost use Rattle.bits_edge.specs.Parts.{InRow};
 
 use bits_edge::edge_summary;
@@ -19,23 +18,19 @@ use bits_stretch::Summary;
 
 // Returns the summary of bytes `from` to `to` - 1 of a row, at least one byte.
 fn bytes_summary(t: &Lookup, words: &[u64], from: usize, to: usize) -> Summary
-    requires table { IsTable t.now }
     requires in_row { InRow (8 * length words.now) from to max_bytes }
     requires from_lt_to { from < to }
     ensures { result ≡ summary_of (bit_at words.now) (8 * from) (8 * (to - from)) }
 {
-    let mut x = bits_lookup::byte_summary(t, row::byte(words, from));
-    let mut k = from + 1;
-    while k < to {
-        x = bits_stretch::join(x, bits_lookup::byte_summary(t, row::byte(words, k)));
-        k += 1;
+    let mut x = t.byte_summary(row::byte(words, from));
+    for k in from + 1..to {
+        x = x.join(t.byte_summary(row::byte(words, k)));
     }
     x
 }
 
 // Returns the summary of bits `from` to `to` - 1 of a row, at least one bit. `from` is a multiple of 8, because blocks begin there.
 pub fn stretch_summary(t: &Lookup, words: &[u64], from: usize, to: usize) -> Summary
-    requires table { IsTable t.now }
     requires in_row { InRow (64 * length words.now) from to max_bits }
     requires from_value { (from % 8 ≡ 0) × (from < to) }
     ensures { result ≡ summary_of (bit_at words.now) from (to - from) }
@@ -49,5 +44,5 @@ pub fn stretch_summary(t: &Lookup, words: &[u64], from: usize, to: usize) -> Sum
     if to % 8 == 0 {
         return x;
     }
-    bits_stretch::join(x, edge_summary(words, 8 * z, to))
+    x.join(edge_summary(words, 8 * z, to))
 }

@@ -1,2 +1,3 @@
-pub mod Shifted
 pub mod Pieces
+pub mod InWords
+pub mod Ends

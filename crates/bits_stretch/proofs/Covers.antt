@@ -6,6 +6,7 @@
 --   summary_total: the total of a summary is the excess of the bits
 --   scan_some: if some position of the stretch has the searched excess, the scan hits a position
 --   skip_forward, skip_backward: a scan passes a stretch that does not qualify, and the remainder changes by its total
+--   skip_on: the same for both directions
 --   hold_forward, hold_backward: a scan hits a position in a stretch that qualifies; going backward, if r is not 0
 --   skip_far: a scan passes c bits if |r| is above c
 -- Assumes nothing.
@@ -28,9 +29,9 @@ use Rattle.row.proofs.Bools.{and_left, and_right}
 use Rattle.row.proofs.Excess.{sign_size}
 use Rattle.row.proofs.Nearest.{NearestBy, InStretch}
 use Rattle.bits_stretch.specs.declared.summary.Summary.{Summary}
-use Rattle.bits_stretch.specs.declared.bits.Scanned.{Scanned}
-use Rattle.bits_stretch.specs.declared.bits.Scanned.TheVariants.{Hit, Left}
-use Rattle.bits_stretch.specs.Summary.{run, none, summary_of, holds_for, holds_back}
+use Rattle.bits_stretch.specs.Scan.{Scanned}
+use Rattle.std.specs.declared.ops.ControlFlow.TheVariants.{Break, Continue}
+use Rattle.bits_stretch.specs.Summary.{run, none, summary_of, holds_for, holds_back, holds_on}
 use Rattle.bits_stretch.specs.Scan.{place, rest, passed, less, scan}
 use Rattle.bits_stretch.proofs.Full.{Full, summary_full}
 use Rattle.bits_stretch.proofs.Meets.{met, hit_answer, scan_nearest, scan_left, scan_none}
@@ -74,13 +75,13 @@ summary_total f a zero = refl
 summary_total f a (suc c) = refl
 
 pub scan_some : (w : Way) (f : ℕ → ℕ) (c a : ℕ) (r : ℤ) (k : ℕ) → a ≤ k → k < a + c → met w (excess f) k ≡ excess f (place w c a) +ℤ r
-    → (j : ℕ) × (scan w f c a r ≡ Hit j)
+    → (j : ℕ) × (scan w f c a r ≡ Break j)
 scan_some w f c a r k p q m = go (scan w f c a r) refl (scan_nearest f (excess f (place w c a) +ℤ r) w c a r refl)
   where
     go : (x : Scanned) → scan w f c a r ≡ x → NearestBy (Before w) (InStretch (λ k. met w (excess f) k ≡ excess f (place w c a) +ℤ r) a (a + c)) (hit_answer x)
-        → (j : ℕ) × (scan w f c a r ≡ Hit j)
-    go (Hit j) e g = (j, e)
-    go (Left z) e g = absurd (g k (p, q, m))
+        → (j : ℕ) × (scan w f c a r ≡ Break j)
+    go (Break j) e g = (j, e)
+    go (Continue z) e g = absurd (g k (p, q, m))
 
 -- ---- bits that are passed, or hit, by their summary
 module _ (f : ℕ → ℕ) (c a : ℕ) (some : 0 < c) where
@@ -90,13 +91,13 @@ module _ (f : ℕ → ℕ) (c a : ℕ) (some : 0 < c) where
   bits : Full (excess f) a (a + c) x
   bits = summary_full f a c some
 
-  pub skip_forward : (r : ℤ) → holds_for x r ≡ false → scan forward f c a r ≡ Left (r -ℤ x.total)
+  pub skip_forward : (r : ℤ) → holds_for x r ≡ false → scan forward f c a r ≡ Continue (r -ℤ x.total)
   skip_forward r h = rw summary_total (scan_none f forward c a r (λ k p q m. true≢false (sym (yes k p q m) ∙ h)))
     where
       yes : (k : ℕ) → a ≤ k → k < a + c → excess f (suc k) ≡ excess f a +ℤ r → holds_for x r ≡ true
       yes k p q m = holds_in x r (omega (zsum, bits.over k p q)) (omega (zsum, bits.under k p q))
 
-  pub skip_backward : (r : ℤ) → holds_back x (r +ℤ x.total) ≡ false → scan backward f c a r ≡ Left (r +ℤ x.total)
+  pub skip_backward : (r : ℤ) → holds_back x (r +ℤ x.total) ≡ false → scan backward f c a r ≡ Continue (r +ℤ x.total)
   skip_backward r h = rw summary_total (scan_none f backward c a r (λ k p q m. true≢false (sym (holds k p q m) ∙ h)))
     where
       -- If the excess before bit k is r more than at the end of the stretch, it is r + total more than at its beginning.
@@ -112,20 +113,24 @@ module _ (f : ℕ → ℕ) (c a : ℕ) (some : 0 < c) where
         | no l ↦ (let w : k ≡ a = omega arith in let y : excess f a ≡ excess f a +ℤ (r +ℤ x.total) = rw w at (s k m) in back_zero x (r +ℤ x.total) (omega (zsum, y, plus r x.total)))
       ]
 
-  pub hold_forward : (r : ℤ) → holds_for x r ≡ true → (j : ℕ) × (scan forward f c a r ≡ Hit j)
+  pub skip_on : (w : Way) (r : ℤ) → holds_on w x r ≡ false → scan w f c a r ≡ Continue (passed w r x.total)
+  skip_on forward r h = skip_forward r h
+  skip_on backward r h = skip_backward r h
+
+  pub hold_forward : (r : ℤ) → holds_for x r ≡ true → (j : ℕ) × (scan forward f c a r ≡ Break j)
   hold_forward r h =
       let k = bits.taken (excess f a +ℤ r) (omega (zsum, holds_low x r h)) (omega (zsum, holds_top x r h)) in
       scan_some forward f c a r k.0 k.1 k.2 k.3
 
   -- A backward scan does not compare the excess after the last bit. So r = 0 is excluded.
-  pub hold_backward : (r : ℤ) → (r ≡ pos 0 → ⊥) → holds_back x (r +ℤ x.total) ≡ true → (j : ℕ) × (scan backward f c a r ≡ Hit j)
+  pub hold_backward : (r : ℤ) → (r ≡ pos 0 → ⊥) → holds_back x (r +ℤ x.total) ≡ true → (j : ℕ) × (scan backward f c a r ≡ Break j)
   hold_backward r n h =
       ⊎_elim (λ z. scan_some backward f c a r a (omega arith) (omega arith) (omega (zsum, bits.total, plus r x.total))) inner (back_cases x s h)
     where
       s : ℤ
       s = r +ℤ x.total
 
-      inner : holds_for x s ≡ true → (j : ℕ) × (scan backward f c a r ≡ Hit j)
+      inner : holds_for x s ≡ true → (j : ℕ) × (scan backward f c a r ≡ Break j)
       inner i =
           let k = bits.taken (excess f a +ℤ s) (omega (zsum, holds_low x s i, plus r x.total)) (omega (zsum, holds_top x s i, plus r x.total)) in
           let m : excess f (suc k.0) ≡ excess f (a + c) +ℤ r = omega (zsum, k.3, bits.total, plus r x.total) in
@@ -145,7 +150,7 @@ less_far backward r b =
     omega (arith, ap size e, minus_size (r +ℤ sign b) (sign b), sign_size b)
 
 module _ (w : Way) (f : ℕ → ℕ) where
-  unmet : (c a : ℕ) (r : ℤ) (j : ℕ) → c < size r → scan w f c a r ≡ Hit j → ⊥
+  unmet : (c a : ℕ) (r : ℤ) (j : ℕ) → c < size r → scan w f c a r ≡ Break j → ⊥
   unfolding scan
   unmet zero a r j l e = let z : ◌≡◌ {A = ℕ} 0 1 = cc in omega arith
   unmet (suc c) a r j l e = go (eq_z p (pos 0)) refl e (λ g. unmet c (rest w a) p j (omega (arith, less_far w r (f (place w c a)))) g)
@@ -153,13 +158,13 @@ module _ (w : Way) (f : ℕ → ℕ) where
       p : ℤ
       p = less w r (f (place w c a))
 
-      go : (t : Bool) → eq_z p (pos 0) ≡ t → cond t (Hit (place w c a)) (scan w f c (rest w a) p) ≡ Hit j → (scan w f c (rest w a) p ≡ Hit j → ⊥) → ⊥
+      go : (t : Bool) → eq_z p (pos 0) ≡ t → cond t (Break (place w c a)) (scan w f c (rest w a) p) ≡ Break j → (scan w f c (rest w a) p ≡ Break j → ⊥) → ⊥
       go true h e g = let z : size p ≡ 0 = ap size (eq_z_true p (pos 0) h) in omega (arith, less_far w r (f (place w c a)))
       go false h e g = g e
 
-  pub skip_far : (c a : ℕ) (r : ℤ) → c < size r → scan w f c a r ≡ Left (passed w r (excess (λ k. f (a + k)) c))
+  pub skip_far : (c a : ℕ) (r : ℤ) → c < size r → scan w f c a r ≡ Continue (passed w r (excess (λ k. f (a + k)) c))
   skip_far c a r l = go (scan w f c a r) refl
     where
-      go : (y : Scanned) → scan w f c a r ≡ y → scan w f c a r ≡ Left (passed w r (excess (λ k. f (a + k)) c))
-      go (Hit j) e = absurd (unmet c a r j l e)
-      go (Left q) e = rw (← scan_left f w c a r q e) e
+      go : (y : Scanned) → scan w f c a r ≡ y → scan w f c a r ≡ Continue (passed w r (excess (λ k. f (a + k)) c))
+      go (Break j) e = absurd (unmet c a r j l e)
+      go (Continue q) e = rw (← scan_left f w c a r q e) e

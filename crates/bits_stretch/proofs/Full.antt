@@ -13,6 +13,7 @@
 --   Sized: each of the three values has a size of at most m
 --   summary_size: each value of the summary of c bits has a size of at most c
 --   summary_tame: the summary of at most 2^61 bits is `Tame`, so it can be joined
+--   summary_pair: two such summaries can be joined
 -- Assumes nothing.
 use mathlib.Core.Path.{◌≡◌, refl, ap, ap₂}
 use mathlib.Core.Bool.{Bool, true, false}
@@ -30,7 +31,7 @@ use Rattle.ints.proofs.Order.{min_ud, max_ud, min_size, max_size}
 use Rattle.row.specs.Excess.{sign, excess}
 use Rattle.row.proofs.Excess.{StepsByOne, steps, excess_ext, excess_size}
 use Rattle.bits_stretch.specs.declared.summary.Summary.{Summary}
-use Rattle.bits_stretch.specs.Summary.{run, lowest, highest, none, summary_of, join_of, Tame, tame_bound}
+use Rattle.bits_stretch.specs.Summary.{run, lowest, highest, none, summary_of, join_of, Tame, TamePair, tame_bound}
 
 pub record Full (e : ℕ → ℤ) (a t : ℕ) (x : Summary) : Type 0 where
   pub some : a < t
@@ -214,3 +215,6 @@ summary_size f a (suc c) = record { total = q c (omega arith); least = lowest_si
 
 pub summary_tame : (f : ℕ → ℕ) (a c : ℕ) → c ≤ tame_bound → Tame (summary_of f a c)
 summary_tame f a c h = let s = summary_size f a c in record { total = omega arith; least = omega arith; greatest = omega arith }
+
+pub summary_pair : {x y : Summary} (f g : ℕ → ℕ) (a b c d : ℕ) → x ≡ summary_of f a c → y ≡ summary_of g b d → c ≤ tame_bound → d ≤ tame_bound → TamePair x y
+summary_pair f g a b c d p q h k = record { left = rw p (summary_tame f a c h); right = rw q (summary_tame g b d k) }

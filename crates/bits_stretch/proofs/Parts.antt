@@ -3,7 +3,6 @@
 --   then_at: where the second part begins
 --   then_rest: then_at for one bit and then c others is then_at for c + 1
 --   scan_split: a scan of c + d bits is a scan of the c bits read first, then of the other d
---   moved: the result of a scan with its hit moved by a
 --   scan_shift: a scan of the same bits a positions further on gives the same result, moved by a
 --   scan_size: c bits add at most c to the size of the remainder
 -- Assumes nothing.
@@ -15,18 +14,18 @@ use native.Mathlib.Nat.{zero-add, add-zero, suc-add, add-suc, add_assoc}
 use lib.IntN.{ℤ, pos}
 use Rattle.ints.specs.Sides.{size}
 use Rattle.ints.specs.Order.{eq_z}
-use Rattle.bits_stretch.specs.declared.bits.Scanned.{Scanned}
-use Rattle.bits_stretch.specs.declared.bits.Scanned.TheVariants.{Hit, Left}
+use Rattle.bits_stretch.specs.Scan.{Scanned}
+use Rattle.std.specs.declared.ops.ControlFlow.TheVariants.{Break, Continue}
 use Rattle.row.specs.Way.{Way, forward, backward}
-use Rattle.bits_stretch.specs.Scan.{place, rest, less, scan}
-use Rattle.bits_stretch.proofs.Steps.{less_size}
+use Rattle.bits_stretch.specs.Scan.{place, rest, less, scan, moved}
+use Rattle.bits_stretch.proofs.Steps.{place_from, rest_from, less_size}
 
 -- ---- one part and then the next
 
 -- The hit of the first part, or the result of going on with its remainder.
 abbrev pub scan_onward : Scanned → (ℤ → Scanned) → Scanned
-scan_onward (Hit j) g = Hit j
-scan_onward (Left q) g = g q
+scan_onward (Break j) g = Break j
+scan_onward (Continue q) g = g q
 
 -- Of the bits from j on, where those begin that are read after the first c.
 abbrev pub then_at : Way → ℕ → ℕ → ℕ
@@ -49,7 +48,7 @@ place_place : (w : Way) (c d j : ℕ) → place w (c + d) j ≡ place w c (place
 place_place forward c d j = refl
 place_place backward c d j = omega arith
 
-onward_cond : (t : Bool) (x : ℕ) (y : Scanned) (g : ℤ → Scanned) → scan_onward (cond t (Hit x) y) g ≡ cond t (Hit x) (scan_onward y g)
+onward_cond : (t : Bool) (x : ℕ) (y : Scanned) (g : ℤ → Scanned) → scan_onward (cond t (Break x) y) g ≡ cond t (Break x) (scan_onward y g)
 onward_cond true x y g = refl
 onward_cond false x y g = refl
 
@@ -62,14 +61,9 @@ module _ (w : Way) (f : ℕ → ℕ) where
       let x = place w c (place w d j) in
       let q = less w r (f x) in
       rw (suc-add, place_place w c d j, rest_place w d j, onward_cond, ← then_rest w c j)
-      (ap (cond (eq_z q (pos 0)) (Hit x)) (scan_split c d (rest w j) q))
+      (ap (cond (eq_z q (pos 0)) (Break x)) (scan_split c d (rest w j) q))
 
 -- ---- the same bits at another position
-
--- A hit moves by a positions; a remainder is unchanged.
-abbrev pub moved : ℕ → Scanned → Scanned
-moved a (Hit j) = Hit (a + j)
-moved a (Left q) = Left q
 
 place_plus : (w : Way) (a c j : ℕ) → place w c (a + j) ≡ a + place w c j
 place_plus forward a c j = refl
@@ -79,16 +73,7 @@ rest_plus : (w : Way) (a j : ℕ) → rest w (a + j) ≡ a + rest w j
 rest_plus forward a j = sym (add-suc a j)
 rest_plus backward a j = refl
 
--- The bit that is read first is one of the c + 1 bits from j on, and so are the others.
-place_from : (w : Way) (c j : ℕ) → (j ≤ place w c j) × (place w c j < j + suc c)
-place_from forward c j = (omega arith, omega arith)
-place_from backward c j = (omega arith, omega arith)
-
-rest_from : (w : Way) (c j k : ℕ) → rest w j ≤ k → k < rest w j + c → (j ≤ k) × (k < j + suc c)
-rest_from forward c j k h l = (omega arith, omega arith)
-rest_from backward c j k h l = (omega arith, omega arith)
-
-moved_cond : (a : ℕ) (t : Bool) (x : ℕ) (y : Scanned) → moved a (cond t (Hit x) y) ≡ cond t (Hit (a + x)) (moved a y)
+moved_cond : (a : ℕ) (t : Bool) (x : ℕ) (y : Scanned) → moved a (cond t (Break x) y) ≡ cond t (Break (a + x)) (moved a y)
 moved_cond a true x y = refl
 moved_cond a false x y = refl
 
@@ -100,11 +85,11 @@ module _ (w : Way) (f g : ℕ → ℕ) (a : ℕ) where
       let x = place w c j in
       let q = less w r (g x) in
       rw (place_plus w a c j, rest_plus w a j, h x (place_from w c j).0 (place_from w c j).1, moved_cond)
-      (ap (cond (eq_z q (pos 0)) (Hit (a + x))) (scan_shift c (rest w j) q (λ k p l. let i = rest_from w c j k p l in h k i.0 i.1)))
+      (ap (cond (eq_z q (pos 0)) (Break (a + x))) (scan_shift c (rest w j) q (λ k p l. h k (omega (arith, rest_from w j)) (omega (arith, rest_from w j)))))
 
 -- ---- the remainder
 module _ (w : Way) (f : ℕ → ℕ) where
-  pub scan_size : (c j : ℕ) (r q : ℤ) → scan w f c j r ≡ Left q → size q ≤ size r + c
+  pub scan_size : (c j : ℕ) (r q : ℤ) → scan w f c j r ≡ Continue q → size q ≤ size r + c
   unfolding scan
   scan_size zero j r q e = let z : r ≡ q = cc in rw z (omega arith)
   scan_size (suc c) j r q e = go (eq_z p (pos 0)) (λ h. scan_size c (rest w j) p q h) e
@@ -112,7 +97,7 @@ module _ (w : Way) (f : ℕ → ℕ) where
       p : ℤ
       p = less w r (f (place w c j))
 
-      go : (t : Bool) → (scan w f c (rest w j) p ≡ Left q → size q ≤ size p + c) → cond t (Hit (place w c j)) (scan w f c (rest w j) p) ≡ Left q
+      go : (t : Bool) → (scan w f c (rest w j) p ≡ Continue q → size q ≤ size p + c) → cond t (Break (place w c j)) (scan w f c (rest w j) p) ≡ Continue q
           → size q ≤ size r + suc c
       go true h e = let z : ◌≡◌ {A = ℕ} 0 1 = cc in absurd (omega arith)
       go false h e = omega (arith, less_size w r (f (place w c j)), h e)

@@ -6,6 +6,7 @@ use Rattle.std.specs.Int.Signed.{le_z}
 use Rattle.ints.specs.Sides.{size}
 use Rattle.ints.specs.Order.{min_z, max_z, eq_z}
 use Rattle.row.specs.Excess.{excess}
+use Rattle.row.specs.Way.{Way, forward, backward}
 use Rattle.bits_stretch.specs.declared.summary.Summary.{Summary}
 
 -- The running excess after bit j of the stretch that begins at a: the excess of its bits up to and with bit j.
@@ -46,6 +47,12 @@ holds_for x r = le_z x.least r && le_z r x.greatest
 -- Going backward, with s = remainder + total, a stretch qualifies if s = 0 or least <= s <= greatest.
 unfoldable pub holds_back : Summary → ℤ → Bool
 holds_back x s = eq_z s (pos 0) || holds_for x s
+
+-- A stretch qualifies for the remainder r: forward if least <= r <= greatest; backward, with s = r + total, if s = 0 or
+-- least <= s <= greatest.
+abbrev pub holds_on : Way → Summary → ℤ → Bool
+holds_on forward x r = holds_for x r
+holds_on backward x r = holds_back x (r +ℤ x.total)
 
 -- 2^61. The sum of two values of at most this size fits into an i64.
 abbrev pub tame_bound : ℕ

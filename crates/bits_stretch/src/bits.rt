@@ -1,21 +1,19 @@
-// Scans and the summary of bits of one word, read one by one.
-ghost use Rattle.std.specs.Prelude.{◌≡◌, ◌+◌, ◌-◌, ◌<◌, ◌≤◌};
+// The scan and the summary of bits of one word, read one by one.
+ghost use Rattle.std.specs.Prelude.{◌≡◌, ◌+◌, ◌-◌, ◌^◌, ◌<◌, ◌≤◌};
+ghost use Rattle.std.specs.ControlFlow.{ForBreak};
 ghost use Rattle.ints.specs.Limits.{i64_bound};
 ghost use Rattle.ints.specs.Sides.{size};
 ghost use Rattle.row.specs.Bits.{digit};
 ghost use Rattle.row.specs.Excess.{sign};
 ghost use Rattle.bits_stretch.specs.Summary.{summary_of};
-ghost use Rattle.row.specs.Way.{forward, backward};
-ghost use Rattle.bits_stretch.specs.Scan.{scan};
+ghost use Rattle.bits_stretch.specs.Scan.{scan, moved};
 
-use crate::summary::{Summary, join};
+use crate::direction::Direction;
+use crate::summary::Summary;
+use std::ops::ControlFlow;
 
-// Result of a scan: the position that it hits, or the remainder that it leaves.
-#[derive(Clone, Copy)]
-pub enum Scanned {
-    Hit(usize),
-    Left(i64),
-}
+// Result of a scan: it breaks off at the position that it hits, or goes on with the remainder that it leaves.
+pub type Scanned = ControlFlow<usize, i64>;
 
 // Returns what bit j of a word adds to the excess: 1 or -1.
 fn sign_of(word: u64, j: usize) -> i64
@@ -25,40 +23,31 @@ fn sign_of(word: u64, j: usize) -> i64
     if (word >> j) % 2 == 0 { -1 } else { 1 }
 }
 
-// Scans bits `from` to `to` - 1 forward. It hits the first one after which the excess is r more than before bit `from`.
-pub fn bits_fwd(word: u64, from: usize, to: usize, r: i64) -> Scanned
+// Scans bits `from` to `to` - 1. It hits the first bit met where the remainder becomes 0.
+pub fn scan_bits<D: Direction>(word: u64, from: usize, to: usize, r: i64) -> Scanned
     requires from_le_to { (from ≤ to) × (to ≤ 64) }
     requires r_bound { size r + 64 < i64_bound }
-    ensures { result ≡ scan forward (digit word) (to - from) from r }
+    ensures { result ≡ scan D.way (digit word) (to - from) from r }
 {
     let mut j = from;
     let mut q = r;
-    while j < to {
-        q -= sign_of(word, j);
+    for c in (0..to - from).rev() {
+        let x = D::place(c, j);
+        q = D::passed(q, sign_of(word, x));
         if q == 0 {
-            return Scanned::Hit(j);
+            return ControlFlow::Break(x);
         }
-        j += 1;
+        j = D::rest(j);
     }
-    Scanned::Left(q)
+    ControlFlow::Continue(q)
 }
 
-// Scans bits `to` - 1 down to `from`. It hits the last one before which the excess is r more than before bit `to`.
-pub fn bits_bwd(word: u64, from: usize, to: usize, r: i64) -> Scanned
-    requires from_le_to { (from ≤ to) × (to ≤ 64) }
-    requires r_bound { size r + 64 < i64_bound }
-    ensures { result ≡ scan backward (digit word) (to - from) from r }
+// Returns the result of a scan for the same bits a positions further on.
+pub fn moved(y: Scanned, a: usize) -> Scanned
+    requires { ForBreak y (λ j. a + j < 2 ^ 64) }
+    ensures { result ≡ moved a y }
 {
-    let mut j = to;
-    let mut q = r;
-    while from < j {
-        j -= 1;
-        q += sign_of(word, j);
-        if q == 0 {
-            return Scanned::Hit(j);
-        }
-    }
-    Scanned::Left(q)
+    y.map_break(|j| a + j)
 }
 
 // Returns the summary of a single bit.
@@ -80,10 +69,8 @@ pub fn bits_summary(word: u64, from: usize, to: usize) -> Summary
     ensures { result ≡ summary_of (digit word) from (to - from) }
 {
     let mut x = bit_summary(word, from);
-    let mut j = from + 1;
-    while j < to {
-        x = join(x, bit_summary(word, j));
-        j += 1;
+    for j in from + 1..to {
+        x = x.join(bit_summary(word, j));
     }
     x
 }

@@ -1,4 +1,4 @@
-// Stretches of bits: the summary of a stretch, the join of two summaries, and scans that read bits one by one.
+// Stretches of bits: the summary of a stretch, the join of two summaries, the two directions, and the scan that reads bits one by one.
 //
 // A search passes a stretch without reading its bits if the summary shows that the searched position is not in it. It reads the bits
 // of the stretch that has the position. Bytes, blocks and the bits under a min-max node are all stretches. So the byte lookup, the
@@ -8,7 +8,9 @@
 #![tactic(auto)]
 
 mod bits;
+mod direction;
 mod summary;
 
-pub use bits::{Scanned, bits_bwd, bits_fwd, bits_summary};
-pub use summary::{Summary, holds, holds_back, join};
+pub use bits::{Scanned, bits_summary, moved, scan_bits};
+pub use direction::{Backward, Direction, Forward};
+pub use summary::Summary;

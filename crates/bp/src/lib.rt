@@ -2,6 +2,9 @@
 //
 // Each call tests its arguments and refuses bad ones by a number. A call that searches then answers what the walk finds; over a node buffer
 // as built this is the definition of SCOPE, The calls. No call writes to the words or to the node buffer.
+//
+// A call takes the words, n, the node buffer and the block size as they come from C, and tests them itself. So a struct of the four would
+// say nothing about them. What has passed the tests is an `Admitted` of mmt_layout, which the inner functions take.
 #![tactic(auto)]
 
 pub use bp_family::{is_ancestor, last_child, next_sibling, parent, previous_sibling};

@@ -1,3 +1,2 @@
 pub mod Ancestors
-pub mod TwoHandles
 pub mod Siblings

@@ -1,22 +1,16 @@
--- The calls on levels that take a handle, after their tests have passed: one law per branch of the code.
--- HandleAnswers, in the crate bp_spec, has the laws for their tests. The proofs of `level_leftmost` and `level_rightmost` cite this file too.
---   on_at, on_nothing, on_refused: a call of two steps, by the answer of its first search
---   next_is, prev_is: `level_next` and `level_prev` as such calls of two steps
---   told_far, told_near: what the result of `too_far` says about the level
---   level_fits, level_read: a level up to n is in the range of i64, and the cast keeps its value
+-- Levels as machine numbers, and levels above n. The attributes of the functions in src name these laws.
+--   level_read: a level up to n is in the range of i64, and the cast keeps its value
 --   less_fits, less_read: the same for the negated level
 --   walk_beyond: a walk for a difference above n, or below -n, answers nothing
---   ancestor_self, ancestor_far: `level_ancestor` for level 0 is v, and for a level above n nothing
---   ancestor_up: for any level but 0 it is what the walk finds
+--   ancestor_up, ancestor_far: `level_ancestor` for any level but 0 is what the walk finds, and nothing for a level above n
 -- Assumes nothing.
-use mathlib.Core.Path.{◌≡◌, refl, sym, ◌∙◌}
-use mathlib.Core.Bool.{Bool, true, false}
+use mathlib.Core.Path.{◌≡◌, refl, ◌∙◌}
+use mathlib.Core.Bool.{Bool, true, false, cond}
 use mathlib.Core.List.{List}
 use Prim.Native.Nat.{ℕ, zero, suc, ◌≤◌, ◌<◌}
 use native.Mathlib.Omega.{arith}
-use borrow.Author.Tests.{ltb-true, ltb-false, eq-eqb, ne_eqb}
-use lib.Dec.{ltb}
-use lib.IntN.{ℤ, pos, negsuc, neg_ℤ, ◌-ℤ◌}
+use borrow.Author.Tests.{lt-ltb, ne_eqb}
+use lib.IntN.{ℤ, pos, neg_ℤ, ◌-ℤ◌}
 use mir.Syntax.{w64}
 use mir.Val.{SFits, to_z, of_z}
 use mir.Facts.{to_z_pos}
@@ -25,47 +19,14 @@ use Rattle.row.specs.Limits.{max_bits}
 use Rattle.ints.specs.Sides.{size}
 use Rattle.ints.proofs.Linear.{diff}
 use Rattle.ints.proofs.Shapes.{zsum}
-use Rattle.row.specs.declared.answer.Found.{Found}
-use Rattle.row.specs.declared.answer.Found.TheVariants.{At, Nothing, Refused}
-use Rattle.row.specs.declared.refusal.Refusal.{Refusal}
-use Rattle.row.specs.Answer.{Answer, at, nothing, refused, number_of, paper_found}
+use Rattle.row.specs.Answer.{nothing}
 use Rattle.row.specs.Way.{Way, backward}
-use Rattle.walk_spec.specs.Walk.{ends_at_once, walk}
-use Rattle.bp_spec.specs.SearchPair.{Searches, walked, onward, open_of}
-use Rattle.walk_code.proofs.Answers.{walk_end, walk_far}
-use Rattle.bp_spec.specs.LevelCalls.{level_ancestor, level_next, level_prev}
+use Rattle.walk_spec.specs.Walk.{ends_at_once, far, found, start_block, start_scan, in_start, walk}
+use Rattle.bp_spec.specs.SearchPair.{walked}
+use Rattle.bp_spec.specs.LevelCalls.{level_ancestor}
 
--- ---- a call of two steps
-module _ (x : Answer) (next : ℕ → Answer) (y : Found) (e : paper_found y ≡ x) where
-  pub on_at : (j : ℕ) (a : Answer) → y ≡ At j → a ≡ next j → a ≡ onward x next
-  on_at j a h f = rw (← e, h) f
-
-  pub on_nothing : y ≡ Nothing → nothing ≡ onward x next
-  on_nothing h = rw (← e, h)
-
-  pub on_refused : (k : Refusal) → y ≡ Refused k → refused (number_of k) ≡ onward x next
-  on_refused k h = rw (← e, h)
-
-module _ (ws : List ℕ) (n : ℕ) (s : Searches) where
-  pub next_is : (v : ℕ) → level_next ws n s v ≡ onward (s.fwd v (negsuc 0)) (λ c. s.fwd c (pos 1))
-  unfolding level_next
-  next_is v = refl
-
-  pub prev_is : (v : ℕ) → level_prev ws n s v ≡ onward (s.bwd v (pos 1)) (open_of s)
-  unfolding level_prev
-  prev_is v = refl
-
--- ---- the test of a level, and the level as an i64
-pub told_far : {n k : ℕ} {b : Bool} → b ≡ ltb n k → b ≡ true → n < k
-told_far {n} {k} p q = ltb-true n k (sym p ∙ q)
-
-pub told_near : {n k : ℕ} {b : Bool} → b ≡ ltb n k → b ≡ false → k ≤ n
-told_near {n} {k} p q = ltb-false n k (sym p ∙ q)
-
+-- ---- the level as an i64
 module _ (n k : ℕ) (short : n ≤ max_bits) (h : k ≤ n) where
-  pub level_fits : SFits w64 (pos k)
-  level_fits = omega zsum
-
   pub level_read : to_z w64 k ≡ pos k
   level_read = to_z_pos w64 (omega arith)
 
@@ -82,18 +43,15 @@ module _ (n k : ℕ) (short : n ≤ max_bits) (h : k ≤ n) where
 -- ---- levels above n
 module _ (ws : List ℕ) (n : ℕ) (s : List ℤ) (B : ℕ) where
   pub walk_beyond : (w : Way) (i : ℕ) (r : ℤ) → n < size r → nothing ≡ (walk w ws n s B i r).answer
-  walk_beyond w i r h = go (ends_at_once w n i) refl
+  unfolding walk
+  walk_beyond w i r h = go (ends_at_once w n i)
     where
-      go : (b : Bool) → ends_at_once w n i ≡ b → nothing ≡ (walk w ws n s B i r).answer
-      go true e = walk_end w ws n s B i r e
-      go false e = walk_far w ws n s B i r e h
+      go : (b : Bool) → nothing ≡ (cond b (found nothing 0) (cond (far n r) (found nothing 0) (in_start w ws n s B (start_block w B i) (start_scan w ws n B i r)))).answer
+      go true = refl
+      go false = rw (lt-ltb n (size r) h)
 
   -- ---- `level_ancestor`
   module _ (v k : ℕ) where
-    pub ancestor_self : k ≡ 0 → at v ≡ level_ancestor k ws n (walked ws n s B) v
-    unfolding level_ancestor
-    ancestor_self e = rw (eq-eqb k 0 e)
-
     module _ (z : k ≡ 0 → ⊥) where
       pub ancestor_up : (walk backward ws n s B v (neg_ℤ (pos k))).answer ≡ level_ancestor k ws n (walked ws n s B) v
       unfolding level_ancestor

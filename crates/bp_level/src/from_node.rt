@@ -2,16 +2,17 @@
 //
 // They test refusals 1 to 5, and the walk may give refusal 8. `level_ancestor` takes any u64 as its level; above n the answer is nothing.
 // The functions `too_far` and `open_before` are public because `level_leftmost` and `level_rightmost` use them too.
-ghost use Rattle.std.specs.Prelude.{◌≡◌, ltb, length};
+ghost use Rattle.std.specs.Prelude.{◌≡◌, ltb};
 ghost use Rattle.row.specs.Answer.{paper_found};
-ghost use Rattle.mmt_layout.specs.Layout.{Fine};
-ghost use Rattle.bp_spec.specs.SearchPair.{walked, onward, open_of};
+ghost use Rattle.bp_spec.specs.SearchPair.{walked_on, on_row, onward, open_of};
 ghost use Rattle.bp_spec.specs.HandleCalls.{HandlePromise};
 ghost use Rattle.bp_spec.specs.LevelCalls.{level_ancestor, level_next, level_prev};
 
+use bits_stretch::{Backward, Forward};
 use bp_handle::admit_node;
-use row::{Found, Gate};
-use walk_code::{walk_bwd, walk_fwd};
+use mmt_layout::Admitted;
+use row::Found;
+use walk_code::walk;
 
 // Tests whether k > n: the excess of two positions of n bits never differs by more than n. The test uses the u64, because not every u64 is
 // an i64.
@@ -24,48 +25,45 @@ pub fn too_far(n: usize, k: u64) -> bool
 // ---- after the tests
 
 // Answers `level_ancestor(v, k)`: v for k = 0, otherwise bwd(v, -k).
-fn ancestor_at(words: &[u64], n: usize, nodes: &[i64], block: usize, v: usize, k: u64) -> Found
-    requires { Fine (length words.now) n (length nodes.now) block }
-    ensures { paper_found result ≡ level_ancestor k words.now n (walked words.now n nodes.now block) v }
+#[tactic(auto, using(crate::proofs::NodeLevels::less_read, crate::proofs::NodeLevels::ancestor_far), unfolding(bp_spec::specs::LevelCalls::level_ancestor))]
+fn ancestor_at(row: Admitted, v: usize, k: u64) -> Found
+    ensures { paper_found result ≡ on_row (level_ancestor k) row.entry v }
 {
     if k == 0 {
-        return Found::At(v);
+        return Ok(Some(v));
     }
-    if too_far(n, k) {
-        return Found::Nothing;
+    if too_far(row.n, k) {
+        return Ok(None);
     }
-    walk_bwd(words, n, nodes, block, v, -(k as i64))
+    walk::<Backward>(row, v, -(k as i64))
 }
 
 // Answers `level_next(v)`: fwd(c, 1) with c = `close(v)`.
-fn next_of(words: &[u64], n: usize, nodes: &[i64], block: usize, v: usize) -> Found
-    requires { Fine (length words.now) n (length nodes.now) block }
-    ensures { paper_found result ≡ level_next words.now n (walked words.now n nodes.now block) v }
+#[tactic(auto, unfolding(bp_spec::specs::LevelCalls::level_next))]
+fn next_of(row: Admitted, v: usize) -> Found
+    ensures { paper_found result ≡ on_row level_next row.entry v }
 {
-    match walk_fwd(words, n, nodes, block, v, -1) {
-        Found::At(c) => walk_fwd(words, n, nodes, block, c, 1),
-        Found::Nothing => Found::Nothing,
-        Found::Refused(e) => Found::Refused(e),
-    }
+    let Some(c) = walk::<Forward>(row, v, -1)? else {
+        return Ok(None);
+    };
+    walk::<Forward>(row, c, 1)
 }
 
 // Returns `open(j)` with j = bwd(i, r).
-pub fn open_before(words: &[u64], n: usize, nodes: &[i64], block: usize, i: usize, r: i64) -> Found
-    requires { Fine (length words.now) n (length nodes.now) block }
+pub fn open_before(row: Admitted, i: usize, r: i64) -> Found
     ensures { paper_found result
-        ≡ onward ((walked words.now n nodes.now block).bwd i r)
-        (open_of (walked words.now n nodes.now block)) }
+        ≡ onward ((walked_on row.entry).bwd i r) (open_of (walked_on row.entry)) }
 {
-    match walk_bwd(words, n, nodes, block, i, r) {
-        Found::At(c) => walk_bwd(words, n, nodes, block, c, -1),
-        Found::Nothing => Found::Nothing,
-        Found::Refused(e) => Found::Refused(e),
-    }
+    let Some(c) = walk::<Backward>(row, i, r)? else {
+        return Ok(None);
+    };
+    walk::<Backward>(row, c, -1)
 }
 
 // ---- the calls
 
 // Returns the ancestor of v that is k levels up: v for k = 0, otherwise bwd(v, -k).
+#[tactic(auto, using(bp_spec::proofs::HandleAnswers::node_err))]
 pub fn level_ancestor(
     words: &[u64],
     n: usize,
@@ -76,28 +74,21 @@ pub fn level_ancestor(
 ) -> Found
     ensures { HandlePromise (level_ancestor k) words.now n nodes.now block v (paper_found result) }
 {
-    match admit_node(words, n, nodes, block, v) {
-        Gate::Refuse(e) => Found::Refused(e),
-        Gate::Pass => ancestor_at(words, n, nodes, block, v, k),
-    }
+    ancestor_at(admit_node(words, n, nodes, block, v)?, v, k)
 }
 
 // Returns the next outline node on the level of v: fwd(c, 1) with c = `close(v)`.
+#[tactic(auto, using(bp_spec::proofs::HandleAnswers::node_err))]
 pub fn level_next(words: &[u64], n: usize, nodes: &[i64], block: usize, v: usize) -> Found
     ensures { HandlePromise level_next words.now n nodes.now block v (paper_found result) }
 {
-    match admit_node(words, n, nodes, block, v) {
-        Gate::Refuse(e) => Found::Refused(e),
-        Gate::Pass => next_of(words, n, nodes, block, v),
-    }
+    next_of(admit_node(words, n, nodes, block, v)?, v)
 }
 
 // Returns the previous outline node on the level of v: `open(j)` with j = bwd(v, 1).
+#[tactic(auto, using(bp_spec::proofs::HandleAnswers::node_err))]
 pub fn level_prev(words: &[u64], n: usize, nodes: &[i64], block: usize, v: usize) -> Found
     ensures { HandlePromise level_prev words.now n nodes.now block v (paper_found result) }
 {
-    match admit_node(words, n, nodes, block, v) {
-        Gate::Refuse(e) => Found::Refused(e),
-        Gate::Pass => open_before(words, n, nodes, block, v, 1),
-    }
+    open_before(admit_node(words, n, nodes, block, v)?, v, 1)
 }

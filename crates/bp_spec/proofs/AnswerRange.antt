@@ -12,8 +12,8 @@ use mathlib.Core.List.{List, [], ◌∷◌}
 use Prim.Native.Nat.{ℕ}
 use lib.IntN.{ℤ, negsuc}
 use lib.ListN.{length}
-use Rattle.row.specs.declared.gate.Gate.{Gate}
-use Rattle.row.specs.declared.gate.Gate.TheVariants.{Pass}
+use Rattle.row.specs.Gates.{Gate}
+use Rattle.std.specs.Prelude.{Ok}
 use Rattle.row.specs.Answer.{Answer}
 use Rattle.row.specs.Gates.{row_gate, handle_gate, through, and_then}
 use Rattle.row.specs.Way.{Way, forward, backward}
@@ -64,7 +64,7 @@ abbrev bare : List ℕ
 bare = 2 ∷ 3 ∷ 5 ∷ []
 
 -- A walk's answer behind a gate is a value below b, nothing, a refusal of the gate, or refusal 8.
-behind : (b : ℕ) (l : List ℕ) → Among 8 l → (g : Gate) (a : Answer) → RefusedBy l g → (g ≡ Pass → May b (8 ∷ []) a) → May b l (through g a)
+behind : (b : ℕ) (l : List ℕ) → Among 8 l → (g : Gate) (a : Answer) → RefusedBy l g → (g ≡ (Ok tt) → May b (8 ∷ []) a) → May b l (through g a)
 behind b l e g a h f = may_through l b g a h (λ o. may_wider b (8 ∷ []) l (λ k i. Memᴰ.cast (Memᴰ.eq_of_singleton i) e) a (f o))
 
 -- ---- what each kind of call may answer
@@ -94,7 +94,7 @@ module _ (ws : List ℕ) (n : ℕ) (s : List ℤ) (B : ℕ) where
   handle_refused : (v : ℕ) → RefusedBy held (handle_gate ws n v)
   handle_refused v = refused_handle held ws n v (Memᴰ.tail four)
 
-  held_may : (b : ℕ) (h : Gate) (a : Answer) → RefusedBy held h → (and_then nodes h ≡ Pass → May b (8 ∷ []) a) → May b held (through (and_then nodes h) a)
+  held_may : (b : ℕ) (h : Gate) (a : Answer) → RefusedBy held h → (and_then nodes h ≡ (Ok tt) → May b (8 ∷ []) a) → May b held (through (and_then nodes h) a)
   held_may b h a q f =
       behind b held (Memᴰ.tail (Memᴰ.tail four)) (and_then nodes h) a
       (refused_then held nodes h (refused_nodes held (length ws) n (length s) B one two three four) q) f

@@ -5,20 +5,20 @@
 --   ancestor_equal: `is_ancestor`, which takes two handles
 --   equal: every call
 -- Assumes nothing.
-use mathlib.Core.Path.{◌≡◌, refl, sym}
-use mathlib.Core.List.{List, [], ◌∷◌}
+use mathlib.Core.Path.{◌≡◌, sym}
+use mathlib.Core.List.{List}
 use Prim.Native.Nat.{ℕ, ◌<◌}
 use native.Mathlib.Omega.{arith}
 use lib.IntN.{ℤ, negsuc}
 use lib.ListN.{length}
-use Rattle.row.specs.declared.gate.Gate.TheVariants.{Pass}
-use Rattle.row.specs.Answer.{Answer, at, refused}
+use Rattle.std.specs.Prelude.{Ok}
+use Rattle.row.specs.Answer.{Answer}
 use Rattle.row.specs.Gates.{row_gate, handle_gate, through}
 use Rattle.row.specs.Search.{fwd, bwd}
 use Rattle.row.specs.Way.{forward, backward}
 use Rattle.row.proofs.Gates.{row_passed}
 use Rattle.mmt_layout.specs.Layout.{nodes_gate, Fine}
-use Rattle.mmt_layout.proofs.Admitted.{fine_gate}
+use Rattle.mmt_layout.proofs.Gates.{fine_gate}
 use Rattle.bp_spec.specs.RowCalls.{handle_answer}
 use Rattle.mmt_node.specs.Nodes.{AsBuilt}
 use Rattle.walk_spec.proofs.Right.{walk_forward, walk_backward}
@@ -28,27 +28,20 @@ use Rattle.bp_spec.specs.HandleCalls.{node_answer, node_defined}
 use Rattle.bp_spec.proofs.SearchesAgree.{searches_defined}
 use Rattle.bp_spec.specs.RowCalls as handle
 use Rattle.bp_spec.specs.AncestorCalls as family
-use Rattle.bp_spec.specs.AncestorCalls.{both_gate, ancestor_answer, ancestor_defined}
+use Rattle.bp_spec.specs.AncestorCalls.{ancestor_answer, ancestor_defined}
 use Rattle.bp_spec.specs.SiblingCalls as sibling
 use Rattle.bp_spec.specs.LevelCalls as level
-use Rattle.bp_spec.specs.LevelEnds as ends
 use Rattle.bp_spec.specs.LevelEnds.{level_answer, rightmost_answer, rightmost_defined}
 use Rattle.bp_spec.proofs.RightmostStart.{rightmost_right}
 use Rattle.bp_spec.specs.declared.question.Question.{Question}
 use Rattle.bp_spec.specs.declared.question.Question.TheVariants.{FwdSearch, BwdSearch, Close, Open, Enclose, Root, Parent, FirstChild, LastChild, NextSibling, PreviousSibling, IsLeaf, IsAncestor, LevelAncestor, LevelNext, LevelPrev, LevelLeftmost, LevelRightmost}
 use Rattle.bp_spec.specs.Questions.{promised, definition}
-use Rattle.row.specs.Tree.{Handle}
-use Rattle.bp_spec.specs.Ranges.{kind, May}
-use Rattle.row.proofs.Tree.{opens_low}
-use Rattle.bp_spec.proofs.CallRange.{may_root, may_first_child, may_leaf, may_parent, may_last_child, may_next_sibling, may_previous_sibling, may_ancestor, may_level_ancestor, may_next, may_prev, may_leftmost, may_rightmost}
-use Rattle.bp_spec.proofs.WalkRange.{fwd_may, bwd_may, last_may}
-use Rattle.bp_spec.proofs.GateRange.{refused_then, refused_handle, may_through, handle_of}
 
 module _ (ws : List ℕ) (n : ℕ) (s : List ℤ) (B : ℕ) (fine : Fine (length ws) n (length s) B) (built : AsBuilt ws n s B) where
-  gate : nodes_gate (length ws) n (length s) B ≡ Pass
+  gate : nodes_gate (length ws) n (length s) B ≡ (Ok tt)
   gate = fine_gate (length ws) n (length s) B fine
 
-  row : row_gate (length ws) n ≡ Pass
+  row : row_gate (length ws) n ≡ (Ok tt)
   row = let w = fine.words in sym (row_passed (length ws) n fine.short (omega arith))
 
   blocks : 0 < B

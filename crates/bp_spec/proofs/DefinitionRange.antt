@@ -2,39 +2,27 @@
 --   defined_may: the values and the refusal of every call
 --   only_five: a call by definition that refuses, refuses by 5
 -- Assumes nothing.
-use mathlib.Core.Path.{◌≡◌, refl, sym}
+use mathlib.Core.Path.{◌≡◌, refl}
 use mathlib.Core.List.Memᴰ
 use mathlib.Core.List.{List, [], ◌∷◌}
-use Prim.Native.Nat.{ℕ, ◌<◌}
-use native.Mathlib.Omega.{arith}
+use Prim.Native.Nat.{ℕ}
 use lib.IntN.{ℤ, negsuc}
-use lib.ListN.{length}
-use Rattle.row.specs.declared.gate.Gate.TheVariants.{Pass}
+use Rattle.std.specs.Prelude.{Ok}
 use Rattle.row.specs.Answer.{Answer, at, refused}
-use Rattle.row.specs.Gates.{row_gate, handle_gate, through}
-use Rattle.row.specs.Search.{fwd, bwd}
-use Rattle.row.specs.Way.{forward, backward}
-use Rattle.row.proofs.Gates.{row_passed}
-use Rattle.mmt_layout.specs.Layout.{nodes_gate, Fine}
-use Rattle.mmt_layout.proofs.Admitted.{fine_gate}
-use Rattle.bp_spec.specs.RowCalls.{handle_answer}
-use Rattle.mmt_node.specs.Nodes.{AsBuilt}
-use Rattle.walk_spec.proofs.Right.{walk_forward, walk_backward}
-use Rattle.bp_spec.specs.SearchPair.{Searches, walked, defined}
-use Rattle.bp_spec.specs.SearchCalls.{search_answer, outward}
-use Rattle.bp_spec.specs.HandleCalls.{node_answer, node_defined}
-use Rattle.bp_spec.proofs.SearchesAgree.{searches_defined}
+use Rattle.row.specs.Gates.{handle_gate, through}
+use Rattle.bp_spec.specs.SearchPair.{Searches, defined}
+use Rattle.bp_spec.specs.SearchCalls.{outward}
+use Rattle.bp_spec.specs.HandleCalls.{node_defined}
 use Rattle.bp_spec.specs.RowCalls as handle
 use Rattle.bp_spec.specs.AncestorCalls as family
-use Rattle.bp_spec.specs.AncestorCalls.{both_gate, ancestor_answer, ancestor_defined}
+use Rattle.bp_spec.specs.AncestorCalls.{both_gate, ancestor_defined}
 use Rattle.bp_spec.specs.SiblingCalls as sibling
 use Rattle.bp_spec.specs.LevelCalls as level
 use Rattle.bp_spec.specs.LevelEnds as ends
-use Rattle.bp_spec.specs.LevelEnds.{level_answer, rightmost_answer, rightmost_defined}
-use Rattle.bp_spec.proofs.RightmostStart.{rightmost_right}
+use Rattle.bp_spec.specs.LevelEnds.{rightmost_defined}
 use Rattle.bp_spec.specs.declared.question.Question.{Question}
 use Rattle.bp_spec.specs.declared.question.Question.TheVariants.{FwdSearch, BwdSearch, Close, Open, Enclose, Root, Parent, FirstChild, LastChild, NextSibling, PreviousSibling, IsLeaf, IsAncestor, LevelAncestor, LevelNext, LevelPrev, LevelLeftmost, LevelRightmost}
-use Rattle.bp_spec.specs.Questions.{promised, definition}
+use Rattle.bp_spec.specs.Questions.{definition}
 use Rattle.row.specs.Tree.{Handle}
 use Rattle.bp_spec.specs.Ranges.{kind, May}
 use Rattle.row.proofs.Tree.{opens_low}
@@ -53,7 +41,7 @@ module _ (ws : List ℕ) (n : ℕ) where
   behind_may i r = bwd_may ws n i r bad
 
   held_may : (b v : ℕ) (a : Answer) → (Handle ws n v → May b bad a) → May b bad (through (handle_gate ws n v) a)
-  held_may b v a f = may_through bad b (handle_gate ws n v) a (refused_handle bad ws n v (Memᴰ.head refl)) (λ g. f (handle_of ws n v Pass g))
+  held_may b v a f = may_through bad b (handle_gate ws n v) a (refused_handle bad ws n v (Memᴰ.head refl)) (λ g. f (handle_of ws n v (Ok tt) g))
 
   node_may : (c : List ℕ → ℕ → Searches → ℕ → Answer) (v : ℕ) → (Handle ws n v → May n bad (c ws n (defined ws n) v))
       → May n bad (node_defined c ws n v)

@@ -1,7 +1,7 @@
 pub mod Gates
-pub mod SearchAnswers
 pub mod SearchesAgree
 pub mod HandleAnswers
+pub mod SearchAnswers
 pub mod RightmostStart
 pub mod CallsAgree
 pub mod GateRange

@@ -10,13 +10,13 @@ use native.Mathlib.Omega.{arith}
 use lib.IntN.{ℤ}
 use lib.ListN.{length}
 use Rattle.row.specs.Limits.{max_bits}
-use Rattle.row.specs.declared.gate.Gate.{Gate}
-use Rattle.row.specs.declared.gate.Gate.TheVariants.{Pass, Refuse}
+use Rattle.row.specs.Gates.{Gate}
+use Rattle.std.specs.Prelude.{Ok, Err}
 use Rattle.row.specs.Answer.{Answer, at, nothing, refused}
 use Rattle.row.specs.Gates.{row_gate, through, and_then}
 use Rattle.row.proofs.Gates.{row_fits}
 use Rattle.mmt_layout.specs.Layout.{nodes_gate}
-use Rattle.mmt_layout.proofs.Admitted.{gate_fine}
+use Rattle.mmt_layout.proofs.Gates.{gate_fine}
 use Rattle.bp_spec.specs.declared.question.Question.{Question}
 use Rattle.bp_spec.specs.declared.question.Question.TheVariants.{FwdSearch, BwdSearch, Close, Open, Enclose, Root, Parent, FirstChild, LastChild, NextSibling, PreviousSibling, IsLeaf, IsAncestor, LevelAncestor, LevelNext, LevelPrev, LevelLeftmost, LevelRightmost}
 use Rattle.bp_spec.specs.SearchCalls.{search_answer}
@@ -32,15 +32,15 @@ IsRefusal (at x) = ⊥
 IsRefusal nothing = ⊥
 IsRefusal (refused k) = Unit {0}
 
-through_refuses : (g : Gate) (a : Answer) → (g ≡ Pass → ⊥) → IsRefusal (through g a)
-through_refuses Pass a f = absurd (f refl)
-through_refuses (Refuse k) a f = tt
+through_refuses : (g : Gate) (a : Answer) → (g ≡ (Ok tt) → ⊥) → IsRefusal (through g a)
+through_refuses (Ok tt) a f = absurd (f refl)
+through_refuses (Err k) a f = tt
 
 module _ (ws : List ℕ) (n : ℕ) (s : List ℤ) (B : ℕ) (many : max_bits < n) where
-  row_stops : row_gate (length ws) n ≡ Pass → ⊥
+  row_stops : row_gate (length ws) n ≡ (Ok tt) → ⊥
   row_stops g = let f = (row_fits (length ws) n g).0 in omega arith
 
-  nodes_stop : nodes_gate (length ws) n (length s) B ≡ Pass → ⊥
+  nodes_stop : nodes_gate (length ws) n (length s) B ≡ (Ok tt) → ⊥
   nodes_stop g = let f = (gate_fine (length ws) n (length s) B g).short in omega arith
 
   over_row_lem : (h : Gate) (a : Answer) → IsRefusal (through (and_then (row_gate (length ws) n) h) a)

@@ -1,7 +1,5 @@
 -- Where `level_rightmost` starts. The root of nodes as built is the summary of the whole row, so n + total - 1 equals 2*ones - 1.
---   start_none, start_misfit, start_root: the start over any nodes, one law per case
---   sum_fits, start_fits: n + total and n + total - 1 are in the range of i64
---   row_below, row_cast, row_in, row_past: the number n + total - 1 as a position: below 0, converted to unsigned, below n, from n on
+--   start_root: the start over any nodes of a row with bits, if the root is in range
 --   E_ones: the excess is twice the number of open bits minus the number of bits
 --   root_there: a row with bits has a root
 --   root_is: the root is the summary of the whole row
@@ -16,19 +14,13 @@ use mathlib.Core.List.{List}
 use Prim.Native.Nat.{ℕ, zero, suc, ◌+◌, ◌-◌, ◌*◌, ◌≤◌, ◌<◌}
 use native.Mathlib.Omega.{arith}
 use native.Mathlib.Decide.{dec_lt}
-use borrow.Author.Tests.{ltb-false, lt-ltb, le-ltb, eq-eqb, ne_eqb}
-use lib.Dec.{T, ltb, eqb}
-use lib.IntN.{ℤ, pos, negsuc, nat_abs, ◌+ℤ◌, ◌-ℤ◌}
-use lib.Signed.{lt_z, non_neg}
-use mir.Syntax.{w64}
-use mir.Val.{Fits, SFits, to_z, of_z}
-use mir.Facts.{to_z_pos}
-use mir.ValLaws.{to_z-of_z}
+use borrow.Author.Tests.{ltb-false, eq-eqb, ne_eqb}
+use lib.Dec.{ltb, eqb}
+use lib.IntN.{ℤ, pos, negsuc, ◌+ℤ◌, ◌-ℤ◌}
 use Rattle.row.specs.Limits.{max_bits}
-use Rattle.ints.specs.Sides.{size}
-use Rattle.ints.proofs.Linear.{plus, diff, plus_size, minus_size}
+use Rattle.ints.proofs.Linear.{plus, diff}
 use Rattle.ints.proofs.Shapes.{zsum}
-use Rattle.row.specs.Answer.{Answer, at, nothing, refused}
+use Rattle.row.specs.Answer.{Answer, at, nothing}
 use Rattle.row.specs.Bits.{bit_at}
 use Rattle.row.specs.Excess.{sign, excess, E}
 use Rattle.row.specs.Search.{bwd}
@@ -48,79 +40,9 @@ use Rattle.bp_spec.specs.SearchPair.{defined, onward, open_of}
 use Rattle.bp_spec.specs.LevelEnds.{level_rightmost, ones, last_start, in_row, root_start}
 
 -- ---- the start over any nodes
-module _ (n : ℕ) (s : List ℤ) where
-  pub start_none : n ≡ 0 → nothing ≡ root_start n s
-  unfolding root_start
-  start_none e = rw (eq-eqb n 0 e)
-
-  module _ (z : n ≡ 0 → ⊥) where
-    pub start_misfit : fits (node_at s 0) ≡ false → refused 8 ≡ root_start n s
-    unfolding root_start
-    start_misfit f = rw (ne_eqb n 0 z, f)
-
-    pub start_root : fits (node_at s 0) ≡ true → in_row n (pos n +ℤ (node_at s 0).total -ℤ pos 1) ≡ root_start n s
-    unfolding root_start
-    start_root f = rw (ne_eqb n 0 z, f)
-
--- ---- a number as a position
-below : (n : ℕ) (z : ℤ) → lt_z z (pos 0) ≡ true → nothing ≡ in_row n z
-below n (pos i) e = absurd (omega zsum)
-below n (negsuc i) e = refl
-
-upward : (z : ℤ) → lt_z z (pos 0) ≡ false → T (non_neg z)
-upward (pos i) e = tt
-upward (negsuc i) e = absurd (omega zsum)
-
-inside : (n : ℕ) (z : ℤ) → lt_z z (pos 0) ≡ false → nat_abs z < n → at (nat_abs z) ≡ in_row n z
-inside n (pos i) e l = rw (lt-ltb i n l)
-inside n (negsuc i) e l = absurd (omega zsum)
-
-outside : (n : ℕ) (z : ℤ) → lt_z z (pos 0) ≡ false → n ≤ nat_abs z → nothing ≡ in_row n z
-outside n (pos i) e l = rw (le-ltb i n l)
-outside n (negsuc i) e l = absurd (omega zsum)
-
-abs_size : (z : ℤ) → nat_abs z ≡ size z
-abs_size (pos i) = omega arith
-abs_size (negsuc i) = omega arith
-
--- ---- n + t - 1 in machine arithmetic
-module _ (n : ℕ) (t : ℤ) (short : n ≤ max_bits) (small : size t ≤ max_bits) where
-  abbrev sum : ℤ
-  sum = to_z w64 n +ℤ to_z w64 (of_z w64 t)
-
-  abbrev start : ℤ
-  start = to_z w64 (of_z w64 sum) -ℤ pos 1
-
-  -- The machine sum equals the sum of the integers.
-  sum_is : sum ≡ pos n +ℤ t
-  sum_is = rw (to_z_pos w64 {n = n} (omega arith), to_z-of_z w64 t (omega zsum))
-
-  pub sum_fits : SFits w64 sum
-  sum_fits = rw sum_is (omega zsum)
-
-  start_eq : start ≡ pos n +ℤ t -ℤ pos 1
-  start_eq = rw (to_z-of_z w64 sum sum_fits, sum_is)
-
-  pub start_fits : SFits w64 start
-  start_fits = rw start_eq (omega (zsum, plus (pos n) t))
-
-  read : to_z w64 (of_z w64 start) ≡ pos n +ℤ t -ℤ pos 1
-  read = to_z-of_z w64 start start_fits ∙ start_eq
-
-  pub row_below : lt_z (to_z w64 (of_z w64 start)) (pos 0) ≡ true → nothing ≡ in_row n (pos n +ℤ t -ℤ pos 1)
-  row_below e = below n (pos n +ℤ t -ℤ pos 1) (rw read at e)
-
-  module _ (e : lt_z (to_z w64 (of_z w64 start)) (pos 0) ≡ false) where
-    pub row_cast : T (non_neg (to_z w64 (of_z w64 start))) × Fits w64 (nat_abs (to_z w64 (of_z w64 start)))
-    row_cast =
-        let m : size (pos n +ℤ t -ℤ pos 1) ≤ 8589934593 = omega (arith, minus_size (pos n +ℤ t) (pos 1), plus_size (pos n) t) in
-        (upward (to_z w64 (of_z w64 start)) e, record { fits = rw (abs_size (to_z w64 (of_z w64 start)), read) (omega arith) })
-
-    pub row_in : nat_abs (to_z w64 (of_z w64 start)) < n → at (nat_abs (to_z w64 (of_z w64 start))) ≡ in_row n (pos n +ℤ t -ℤ pos 1)
-    row_in l = rw (sym read) (inside n (to_z w64 (of_z w64 start)) e l)
-
-    pub row_past : n ≤ nat_abs (to_z w64 (of_z w64 start)) → nothing ≡ in_row n (pos n +ℤ t -ℤ pos 1)
-    row_past l = rw (sym read) (outside n (to_z w64 (of_z w64 start)) e l)
+pub start_root : (n : ℕ) (s : List ℤ) → (n ≡ 0 → ⊥) → fits (node_at s 0) ≡ true → in_row n (pos n +ℤ (node_at s 0).total -ℤ pos 1) ≡ root_start n s
+unfolding root_start
+start_root n s z f = rw (ne_eqb n 0 z, f)
 
 -- ---- the excess by the number of open bits
 bit_sum : (x : ℕ) (z : ℤ) (o k : ℕ) → x < 2 → z +ℤ pos k ≡ pos (2 * o) → (z +ℤ sign x) +ℤ pos (suc k) ≡ pos (2 * (o + x))

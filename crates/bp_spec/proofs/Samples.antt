@@ -7,7 +7,7 @@
 use mathlib.Core.Path.{◌≡◌, refl}
 use mathlib.Core.List.{List, [], ◌∷◌, map}
 use Prim.Native.Nat.{◌+◌, ℕ}
-use lib.IntN.{ℤ, pos, neg_ℤ}
+use lib.IntN.{ℤ, pos}
 use Rattle.row.specs.Limits.{max_bits}
 use Rattle.ints.specs.Order.{eq_z}
 use Rattle.row.specs.Answer.{Answer, at, nothing, refused}

@@ -8,18 +8,18 @@ use Prim.Native.Nat.{ℕ}
 use native.Mathlib.Omega.{arith}
 use lib.IntN.{ℤ}
 use lib.ListN.{length}
-use Rattle.row.specs.declared.gate.Gate.TheVariants.{Pass}
+use Rattle.std.specs.Prelude.{Ok}
 use Rattle.row.specs.Answer.{Answer}
 use Rattle.row.specs.Search.{fwd, bwd}
 use Rattle.row.specs.Way.{forward, backward}
 use Rattle.mmt_layout.specs.Layout.{nodes_gate}
-use Rattle.mmt_layout.proofs.Admitted.{gate_fine}
+use Rattle.mmt_layout.proofs.Gates.{gate_fine}
 use Rattle.mmt_node.specs.Nodes.{AsBuilt}
 use Rattle.walk_spec.specs.Walk.{walk}
 use Rattle.walk_spec.proofs.Right.{walk_forward, walk_backward}
 use Rattle.bp_spec.specs.SearchPair.{Searches, walked, defined}
 
-module _ (ws : List ℕ) (n : ℕ) (s : List ℤ) (B : ℕ) (g : nodes_gate (length ws) n (length s) B ≡ Pass) (b : AsBuilt ws n s B) where
+module _ (ws : List ℕ) (n : ℕ) (s : List ℤ) (B : ℕ) (g : nodes_gate (length ws) n (length s) B ≡ (Ok tt)) (b : AsBuilt ws n s B) where
   forward_defined : (λ i r. (walk forward ws n s B i r).answer) ≡ fwd ws n
   forward_defined =
       let f = gate_fine (length ws) n (length s) B g in

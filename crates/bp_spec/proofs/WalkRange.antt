@@ -20,8 +20,8 @@ use Rattle.row.specs.Bits.{bit_at}
 use Rattle.row.specs.Search.{fwd, bwd}
 use Rattle.row.specs.Way.{Way, forward, backward}
 use Rattle.row.proofs.Meaning.{IsFwd, IsBwd, fwd_is, bwd_is}
-use Rattle.bits_stretch.specs.declared.bits.Scanned.{Scanned}
-use Rattle.bits_stretch.specs.declared.bits.Scanned.TheVariants.{Hit, Left}
+use Rattle.bits_stretch.specs.Scan.{Scanned}
+use Rattle.std.specs.declared.ops.ControlFlow.TheVariants.{Break, Continue}
 use Rattle.bits_stretch.specs.Scan.{less, scan}
 use Rattle.mmt_layout.specs.Layout.{inner, count}
 use Rattle.mmt_node.specs.Nodes.{node_at}
@@ -33,10 +33,10 @@ use Rattle.bp_spec.specs.Ranges.{May}
 -- ---- a scan
 -- A position that the scan hit is below t.
 abbrev Inside : ℕ → Scanned → Type 0
-Inside t (Hit j) = j < t
-Inside t (Left q) = Unit
+Inside t (Break j) = j < t
+Inside t (Continue q) = Unit
 
-inside_cond : (t x : ℕ) (b : Bool) (y : Scanned) → x < t → Inside t y → Inside t (cond b (Hit x) y)
+inside_cond : (t x : ℕ) (b : Bool) (y : Scanned) → x < t → Inside t y → Inside t (cond b (Break x) y)
 inside_cond t x true y h g = h
 inside_cond t x false y h g = g
 
@@ -55,8 +55,8 @@ scan_inside backward f (suc c) a t r h =
 -- ---- the walk
 module _ (w : Way) (ws : List ℕ) (n : ℕ) (s : List ℤ) (B : ℕ) where
   in_leaf_lem : (x : Scanned) (c : ℕ) → Inside n x → May n (8 ∷ []) (in_leaf w ws n s B x c).answer
-  in_leaf_lem (Hit j) c h = h
-  in_leaf_lem (Left q) c h = Memᴰ.head refl
+  in_leaf_lem (Break j) c h = h
+  in_leaf_lem (Continue q) c h = Memᴰ.head refl
 
   landed : (d : Descent) → May n (8 ∷ []) (land w ws n s B d).answer
   landed (leaf k r c) =
@@ -71,8 +71,8 @@ module _ (w : Way) (ws : List ℕ) (n : ℕ) (s : List ℤ) (B : ℕ) where
   climbed misfit = Memᴰ.head refl
 
   started : (b : ℕ) (x : Scanned) → Inside n x → May n (8 ∷ []) (in_start w ws n s B b x).answer
-  started b (Hit j) h = h
-  started b (Left q) h = climbed (climb w (count n B) s (inner n B + b) 0 (inner n B + b) q 0)
+  started b (Break j) h = h
+  started b (Continue q) h = climbed (climb w (count n B) s (inner n B + b) 0 (inner n B + b) q 0)
 
 start_inside : (w : Way) (ws : List ℕ) (n B i : ℕ) (r : ℤ) → ends_at_once w n i ≡ false → Inside n (start_scan w ws n B i r)
 start_inside forward ws n B i r e = scan_inside forward (bit_at ws) (min n (((i + 1) / B + 1) * B) - (i + 1)) (i + 1) n r (λ u. omega arith)

@@ -1,8 +1,8 @@
 -- SCOPE, The calls: `parent` and `is_ancestor`, each as a rule over any two searches; also what `is_ancestor` answers, refusals included.
 -- Assumes nothing.
 use Rattle.std.specs.Prelude.{◌&&◌, List, ℕ, ltb, leb, ℤ, length}
-use Rattle.row.specs.declared.gate.Gate.{Gate}
-use Rattle.row.specs.Answer.{Answer, at, nothing}
+use Rattle.row.specs.Gates.{Gate}
+use Rattle.row.specs.Answer.{Answer}
 use Rattle.row.specs.Gates.{handle_gate, and_then, through}
 use Rattle.mmt_layout.specs.Layout.{nodes_gate}
 use Rattle.bp_spec.specs.RowCalls.{told}

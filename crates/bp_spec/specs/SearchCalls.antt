@@ -1,7 +1,7 @@
 -- SCOPE, The two searches and How a search walks: what a search answers over any nodes, and how far `enclose` searches.
 -- Assumes nothing.
 use Rattle.std.specs.Prelude.{◌≡◌, cond, List, ℕ, ℤ, negsuc, length}
-use Rattle.row.specs.declared.gate.Gate.TheVariants.{Pass}
+use Rattle.std.specs.Prelude.{Ok}
 use Rattle.row.specs.Answer.{Answer}
 use Rattle.row.specs.Gates.{through}
 use Rattle.row.specs.Search as search
@@ -25,7 +25,7 @@ bwd_answer = search_answer backward
 
 -- If refusals 1 to 4 pass and the nodes are as built for this row, n and B, the answer a equals the definition d.
 abbrev pub WhereBuilt : List ℕ → ℕ → List ℤ → ℕ → Answer → Answer → Type 0
-WhereBuilt ws n s B a d = nodes_gate (length ws) n (length s) B ≡ Pass → AsBuilt ws n s B → a ≡ d
+WhereBuilt ws n s B a d = nodes_gate (length ws) n (length s) B ≡ (Ok tt) → AsBuilt ws n s B → a ≡ d
 
 -- The promise of a call over nodes: its answer a is x, by the walk over any nodes; over nodes as built it is the definition d.
 pub record Promise (ws : List ℕ) (n : ℕ) (s : List ℤ) (B : ℕ) (x d a : Answer) : Type 0 where

@@ -4,6 +4,7 @@ use Rattle.std.specs.Prelude.{List, ℕ, ℤ, negsuc}
 use Rattle.row.specs.Answer.{Answer, at, nothing, refused}
 use Rattle.row.specs.Search as search
 use Rattle.row.specs.Way.{forward, backward}
+use Rattle.mmt_layout.specs.declared.admitted.Admitted.{Admitted}
 use Rattle.walk_spec.specs.Walk.{walk}
 
 -- A forward search and a backward search.
@@ -14,6 +15,14 @@ pub record Searches : Type 0 where
 -- The searches by the walk, over any nodes.
 abbrev pub walked : List ℕ → ℕ → List ℤ → ℕ → Searches
 walked ws n s B = record { fwd = λ i r. (walk forward ws n s B i r).answer; bwd = λ i r. (walk backward ws n s B i r).answer }
+
+-- The searches by the walk over an admitted row.
+abbrev pub walked_on : Admitted → Searches
+walked_on t = walked t.words.now t.n t.nodes.now t.block
+
+-- A call over an admitted row, by the walk.
+abbrev pub on_row : {A : Type 0} → (List ℕ → ℕ → Searches → A) → Admitted → A
+on_row call t = call t.words.now t.n (walked_on t)
 
 -- The searches by definition (SCOPE, The two searches).
 abbrev pub defined : List ℕ → ℕ → Searches

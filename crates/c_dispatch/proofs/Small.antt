@@ -20,8 +20,8 @@ use mir.Syntax.{w64}
 use mir.Val.{SFits, to_z, of_z}
 use mir.ValLaws.{to_z-of_z}
 use Rattle.row.specs.Limits.{max_bits}
-use Rattle.row.specs.declared.gate.Gate.{Gate}
-use Rattle.row.specs.declared.gate.Gate.TheVariants.{Pass, Refuse}
+use Rattle.row.specs.Gates.{Gate}
+use Rattle.std.specs.Prelude.{Ok, Err}
 use Rattle.row.specs.Answer.{Answer, at, nothing, refused}
 use Rattle.row.specs.Gates.{through}
 use Rattle.text.specs.Text.{text_gate, read_answer}
@@ -79,8 +79,8 @@ pub read_small : (text ws : List ℕ) → Small (read_answer text ws)
 read_small text ws = go (text_gate text (length ws)) refl
   where
     go : (g : Gate) → text_gate text (length ws) ≡ g → Small (through g (at (length text)))
-    go Pass e = let f = text_fits text (length ws) e in omega arith
-    go (Refuse k) e = Prim.tt {0}
+    go (Ok tt) e = let f = text_fits text (length ws) e in omega arith
+    go (Err k) e = Prim.tt {0}
 
 -- ---- from an answer to its number on the wire
 pub small_as : {a b : Answer} → a ≡ b → Small b → Small a

@@ -3,8 +3,8 @@
 use Rattle.std.specs.Prelude.{cond, List, ℕ, leb, ℤ, length}
 use Rattle.row.specs.Limits.{max_short_bits}
 use Rattle.row.specs.declared.refusal.Refusal.TheVariants.{TooManyBits}
-use Rattle.row.specs.declared.gate.Gate.{Gate}
-use Rattle.row.specs.declared.gate.Gate.TheVariants.{Refuse}
+use Rattle.row.specs.Gates.{Gate}
+use Rattle.std.specs.Prelude.{Err}
 use Rattle.row.specs.Answer.{at}
 use Rattle.row.specs.Gates.{words_for, through, kept}
 use Rattle.text.specs.Text.{words_of, text_gate}
@@ -14,7 +14,7 @@ use Rattle.wire.specs.Bytes.{words_over}
 
 -- Refusals 2, 6 and 3, in this order, for a text and room for w words.
 unfoldable pub short_gate : List ℕ → ℕ → Gate
-short_gate text w = cond (leb (length text) max_short_bits) (text_gate text w) (Refuse TooManyBits)
+short_gate text w = cond (leb (length text) max_short_bits) (text_gate text w) (Err TooManyBits)
 
 -- The bytes of a row after the tests g: the words that the bits need at the front, the rest unchanged; after a refusal all unchanged.
 abbrev pub left_row : Gate → List ℕ → List ℕ → List ℕ

@@ -11,8 +11,8 @@ pub fn over_bytes(row: &[u8], bits: u64, nodes: &[u8], block: u64, request: Requ
 {
     let mut words = [0u64; wire::WORDS];
     let mut numbers = [0i64; wire::NUMBERS];
-    let w = wire::take_words(row, &mut words[..]);
-    let m = wire::take_numbers(nodes, &mut numbers[..]);
+    let w = wire::take(row, &mut words);
+    let m = wire::take(nodes, &mut numbers);
     answer(
         &words[..w],
         wire::bits(bits),

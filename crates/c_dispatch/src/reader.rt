@@ -7,7 +7,7 @@ ghost use Rattle.text.specs.Text.{text_gate};
 ghost use Rattle.wire.specs.Answer.{wire_of};
 ghost use Rattle.c_dispatch.specs.Reader.{left_row, read_wire, read_bytes};
 
-use row::{Read, Refusal};
+use row::Refusal;
 
 // Reads the text into `words`, then writes the words that the bits need to the front of `row`.
 fn read_through(text: &[u8], words: &mut [u64], row: &mut [u8]) -> i64
@@ -16,9 +16,9 @@ fn read_through(text: &[u8], words: &mut [u64], row: &mut [u8]) -> i64
         row.new (left_row (text_gate text.now (length words.old)) text.now row.old) }
 {
     match text::read_text(text, words) {
-        Read::Refused(k) => wire::refused(k),
-        Read::Bits(n) => {
-            wire::write_words(&words[..row::words_for(n)], row);
+        Err(k) => wire::refused(k),
+        Ok(n) => {
+            wire::write(&words[..row::words_for(n)], row);
             n as i64
         }
     }

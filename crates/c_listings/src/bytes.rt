@@ -10,8 +10,6 @@ ghost use Rattle.wire.specs.Limit.{wire_bits};
 ghost use Rattle.list_slice.specs.WholeListing.{count_of};
 ghost use Rattle.c_listings.specs.Listings.{listed_bytes, list_wire, list_left};
 
-use list_slice::Listed;
-
 // Lists into `answers`, then writes the answers to the front of `out`.
 fn put_listing(
     words: &[u64],
@@ -29,9 +27,9 @@ fn put_listing(
         (listed_bytes rising words.now n nodes.now block node (length answers.old) out.old) }
 {
     match list_slice::list(words, n, nodes, block, rising, node, answers) {
-        Listed::Refused(k) => wire::refused(k),
-        Listed::Count(c) => {
-            wire::write_numbers(&answers[..c], out);
+        Err(k) => wire::refused(k),
+        Ok(c) => {
+            wire::write(&answers[..c], out);
             c as i64
         }
     }
@@ -80,8 +78,8 @@ pub fn to_bytes(
 {
     let mut words = [0u64; wire::WORDS];
     let mut numbers = [0i64; wire::NUMBERS];
-    let w = wire::take_words(row, &mut words[..]);
-    let m = wire::take_numbers(nodes, &mut numbers[..]);
+    let w = wire::take(row, &mut words);
+    let m = wire::take(nodes, &mut numbers);
     list_decoded(
         &words[..w],
         bits,

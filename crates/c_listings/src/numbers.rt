@@ -7,8 +7,6 @@ ghost use Rattle.row.specs.Writes.{Writes};
 ghost use Rattle.wire.specs.Answer.{wire_of};
 ghost use Rattle.list_slice.specs.WholeListing.{count_of, left_of};
 
-use list_slice::Listed;
-
 // Writes the children of `node` to `out`, rising or falling. Returns the number of answers written, or the refusal.
 pub fn to_numbers(
     words: &[u64],
@@ -22,6 +20,7 @@ pub fn to_numbers(
     ensures { Writes result (wire_of (count_of rising words.now bits nodes.now block node (length out.old)))
         out.new (left_of rising words.now bits nodes.now block node out.old) }
 {
+    // Makes the i64 here: `wire::read` takes values up to 2^32 only, and a count is only known to be at most 2^32 + 2.
     match list_slice::list(
         words,
         bits as usize,
@@ -31,7 +30,7 @@ pub fn to_numbers(
         node as usize,
         out,
     ) {
-        Listed::Count(c) => c as i64,
-        Listed::Refused(k) => wire::refused(k),
+        Ok(c) => c as i64,
+        Err(k) => wire::refused(k),
     }
 }

@@ -8,8 +8,6 @@ ghost use Rattle.mmt_layout.specs.Layout.{width, count, nodes_gate, max_block};
 ghost use Rattle.wire.specs.Answer.{wire_of};
 ghost use Rattle.capi.specs.Build.{left_bytes};
 
-use row::Built;
-
 // Returns the number of entries that the nodes of n bits need: 3(L + I).
 fn node_numbers(n: usize, block: usize) -> usize
     requires { (n ≤ max_bits) × (8 ≤ block) × (block ≤ max_block) }
@@ -26,9 +24,9 @@ pub fn build(words: &[u64], n: usize, numbers: &mut [i64], block: usize, bytes: 
         bytes.new (left_bytes words.now n (length numbers.old) block bytes.old) }
 {
     match mmt_build::build(words, n, numbers, block) {
-        Built::Refused(k) => wire::refused(k),
-        Built::Done => {
-            wire::write_numbers(&numbers[..node_numbers(n, block)], bytes);
+        Err(k) => wire::refused(k),
+        Ok(()) => {
+            wire::write(&numbers[..node_numbers(n, block)], bytes);
             0
         }
     }

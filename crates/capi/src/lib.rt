@@ -24,7 +24,7 @@ pub extern "C" fn bp_build(row: &[u8], bits: u64, nodes: &mut [u8], block: u64) 
 {
     let mut words = [0u64; wire::WORDS];
     let mut numbers = [0i64; wire::NUMBERS];
-    let w = wire::take_words(row, &mut words[..]);
+    let w = wire::take(row, &mut words);
     let m = wire::fitting(nodes.len(), wire::NUMBERS);
     call::build(
         &words[..w],

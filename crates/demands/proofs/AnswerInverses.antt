@@ -1,36 +1,24 @@
 -- Two answers of the code with the same specification answer are equal, because each map to specification answers has an inverse.
---   refusal_of, found_of, told_of, built_of, read_of, gate_of, listed_of, listing_of, made_of, step_of: the inverses
---   refusal_of_lem, found_of_lem, told_of_lem, built_of_lem, read_of_lem, gate_of_lem, listed_of_lem, listing_of_lem: each of them undoes its map
+--   refusal_of, found_of, told_of, built_of, read_of, listing_of, made_of, step_of: the inverses
+--   refusal_of_lem, found_of_lem, told_of_lem, built_of_lem, read_of_lem, gate_of_lem, listing_of_lem: each of them undoes its map
 --   determined: a map with an inverse has at most one value with the image d
---   one_found, one_told, one_built, one_read, one_listed, one_made, one_step: so at most one answer of each type satisfies a promise
+--   one_found, one_told, one_built, one_read, one_made, one_step: so at most one answer of each type satisfies a promise
 -- Assumes nothing.
 use mathlib.Core.Path.{◌≡◌, refl, sym, ap, ◌∙◌}
-use mathlib.Core.Bool.{cond}
+use mathlib.Core.Bool.{Bool, true, false, cond}
 use Prim.Native.Nat.{ℕ}
 use lib.Dec.{eqb}
+use Rattle.std.specs.Prelude.{Option, Some, None, Result, Ok, Err}
 use Rattle.row.specs.declared.refusal.Refusal.{Refusal}
 use Rattle.row.specs.declared.refusal.Refusal.TheVariants.{BlockSize, TooManyBits, TooFewWords, TooFewNodes}
 use Rattle.row.specs.declared.refusal.Refusal.TheVariants.{NotAHandle, NotAParenthesis, NotOneTree, NodesMisfit}
-use Rattle.row.specs.declared.answer.Found.{Found}
-use Rattle.row.specs.declared.answer.Found.TheVariants.{At, Nothing, Refused}
-use Rattle.row.specs.declared.answer.Told.{Told}
-use Rattle.row.specs.declared.answer.Told.TheVariants.{Yes, No, Nothing as NothingTold, Refused as RefusedTold}
-use Rattle.row.specs.declared.answer.Built.{Built}
-use Rattle.row.specs.declared.answer.Built.TheVariants.{Done, Refused as RefusedBuilt}
-use Rattle.row.specs.declared.answer.Read.{Read}
-use Rattle.row.specs.declared.answer.Read.TheVariants.{Bits, Refused as RefusedRead}
-use Rattle.row.specs.declared.gate.Gate.{Gate}
-use Rattle.row.specs.declared.gate.Gate.TheVariants.{Pass, Refuse}
 use Rattle.row.specs.Answer.{Answer, at, nothing, refused, number_of, paper_found, paper_told, paper_built, paper_read}
-use Rattle.row.specs.Gates.{through}
+use Rattle.row.specs.Gates.{Gate, through}
 use Rattle.list_struct.specs.declared.view.Children.{Children}
 use Rattle.list_struct.specs.declared.view.Made.{Made}
 use Rattle.list_struct.specs.declared.view.Step.{Step}
 use Rattle.list_struct.specs.Listing.{Listing, Outcome}
 use Rattle.list_struct.specs.Paper.{paper_listing, paper_made, paper_step}
-use Rattle.list_slice.specs.declared.write.Listed.{Listed}
-use Rattle.list_slice.specs.declared.write.Listed.TheVariants.{Count, Refused as RefusedListed}
-use Rattle.list_slice.specs.WholeListing.{paper_listed}
 use Rattle.demands.specs.Uniqueness.{One}
 
 -- ---- the inverses
@@ -51,62 +39,48 @@ refusal_of_lem NotAParenthesis = refl
 refusal_of_lem NotOneTree = refl
 refusal_of_lem NodesMisfit = refl
 
-abbrev found_of : Answer → Found
-found_of (at v) = At v
-found_of nothing = Nothing
-found_of (refused m) = Refused (refusal_of m)
+abbrev found_of : Answer → Result (Option ℕ) Refusal
+found_of (at v) = Ok (Some v)
+found_of nothing = Ok None
+found_of (refused m) = Err (refusal_of m)
 
-abbrev told_of : Answer → Told
-told_of (at v) = cond (eqb v 1) Yes No
-told_of nothing = NothingTold
-told_of (refused m) = RefusedTold (refusal_of m)
+abbrev told_of : Answer → Result (Option Bool) Refusal
+told_of (at v) = Ok (Some (eqb v 1))
+told_of nothing = Ok None
+told_of (refused m) = Err (refusal_of m)
 
-abbrev built_of : Answer → Built
-built_of (at v) = Done
-built_of nothing = Done
-built_of (refused m) = RefusedBuilt (refusal_of m)
+abbrev built_of : Answer → Gate
+built_of (at v) = Ok tt
+built_of nothing = Ok tt
+built_of (refused m) = Err (refusal_of m)
 
-abbrev read_of : Answer → Read
-read_of (at n) = Bits n
-read_of nothing = Bits 0
-read_of (refused m) = RefusedRead (refusal_of m)
+abbrev read_of : Answer → Result ℕ Refusal
+read_of (at n) = Ok n
+read_of nothing = Ok 0
+read_of (refused m) = Err (refusal_of m)
 
-abbrev gate_of : Answer → Gate
-gate_of (at v) = Pass
-gate_of nothing = Pass
-gate_of (refused m) = Refuse (refusal_of m)
+found_of_lem : (a : Result (Option ℕ) Refusal) → found_of (paper_found a) ≡ a
+found_of_lem (Ok (Some v)) = refl
+found_of_lem (Ok None) = refl
+found_of_lem (Err k) = ap Err (refusal_of_lem k)
 
-abbrev listed_of : Answer → Listed
-listed_of (at c) = Count c
-listed_of nothing = Count 0
-listed_of (refused m) = RefusedListed (refusal_of m)
+told_of_lem : (a : Result (Option Bool) Refusal) → told_of (paper_told a) ≡ a
+told_of_lem (Ok (Some true)) = refl
+told_of_lem (Ok (Some false)) = refl
+told_of_lem (Ok None) = refl
+told_of_lem (Err k) = ap Err (refusal_of_lem k)
 
-found_of_lem : (a : Found) → found_of (paper_found a) ≡ a
-found_of_lem (At v) = refl
-found_of_lem Nothing = refl
-found_of_lem (Refused k) = ap Refused (refusal_of_lem k)
+built_of_lem : (a : Gate) → built_of (paper_built a) ≡ a
+built_of_lem (Ok tt) = refl
+built_of_lem (Err k) = ap Err (refusal_of_lem k)
 
-told_of_lem : (a : Told) → told_of (paper_told a) ≡ a
-told_of_lem Yes = refl
-told_of_lem No = refl
-told_of_lem NothingTold = refl
-told_of_lem (RefusedTold k) = ap RefusedTold (refusal_of_lem k)
+read_of_lem : (a : Result ℕ Refusal) → read_of (paper_read a) ≡ a
+read_of_lem (Ok n) = refl
+read_of_lem (Err k) = ap Err (refusal_of_lem k)
 
-built_of_lem : (a : Built) → built_of (paper_built a) ≡ a
-built_of_lem Done = refl
-built_of_lem (RefusedBuilt k) = ap RefusedBuilt (refusal_of_lem k)
-
-read_of_lem : (a : Read) → read_of (paper_read a) ≡ a
-read_of_lem (Bits n) = refl
-read_of_lem (RefusedRead k) = ap RefusedRead (refusal_of_lem k)
-
-gate_of_lem : (g : Gate) → gate_of (through g (at 0)) ≡ g
-gate_of_lem Pass = refl
-gate_of_lem (Refuse k) = ap Refuse (refusal_of_lem k)
-
-listed_of_lem : (a : Listed) → listed_of (paper_listed a) ≡ a
-listed_of_lem (Count c) = refl
-listed_of_lem (RefusedListed k) = ap RefusedListed (refusal_of_lem k)
+gate_of_lem : (g : Gate) → built_of (through g (at 0)) ≡ g
+gate_of_lem (Ok tt) = refl
+gate_of_lem (Err k) = ap Err (refusal_of_lem k)
 
 abbrev listing_of : Listing → Children
 listing_of l = record { words = l.words; n = l.n; nodes = l.nodes; block = l.block; rising = l.rising; held = found_of l.held }
@@ -130,11 +104,8 @@ one_built = determined paper_built built_of built_of_lem
 pub one_read : (d : Answer) → One paper_read d
 one_read = determined paper_read read_of read_of_lem
 
-pub one_listed : (d : Answer) → One paper_listed d
-one_listed = determined paper_listed listed_of listed_of_lem
-
 abbrev made_of : Outcome → Made
-made_of x = record { gate = gate_of x.answer; listing = listing_of x.listing }
+made_of x = record { gate = built_of x.answer; listing = listing_of x.listing }
 
 abbrev step_of : Outcome → Step
 step_of x = record { found = found_of x.answer; rest = listing_of x.listing }

@@ -15,11 +15,11 @@ use borrow.Author.Tests.{le-leb, lt-leb}
 use lib.Dec.{leb, eqb}
 use Rattle.row.specs.Limits.{max_bits, max_short_bits}
 use Rattle.row.specs.declared.refusal.Refusal.TheVariants.{TooManyBits}
-use Rattle.row.specs.declared.gate.Gate.{Gate}
-use Rattle.row.specs.declared.gate.Gate.TheVariants.{Pass, Refuse}
+use Rattle.row.specs.Gates.{Gate}
+use Rattle.std.specs.Prelude.{Ok, Err}
 use Rattle.row.specs.Gates.{words_for, row_gate, and_then}
 use Rattle.mmt_layout.specs.Layout.{width, leaves, layout_of, count, block_gate, room_gate, nodes_gate}
-use Rattle.mmt_layout.proofs.Admitted.{block_fits}
+use Rattle.mmt_layout.proofs.Gates.{block_fits}
 use Rattle.mmt_layout.proofs.Powers.{leaves_in, inner_small}
 use Rattle.wire.specs.Limit.{word_room, number_room, wire_bits}
 
@@ -51,7 +51,7 @@ unfolding room_gate
 room_is n t B h k = rw (leb_min (width * count n B) t number_room (nodes_fit n B h k))
 
 -- ---- any row
-too_long : (w n : ℕ) → max_bits < n → row_gate w n ≡ Refuse TooManyBits
+too_long : (w n : ℕ) → max_bits < n → row_gate w n ≡ Err TooManyBits
 unfolding row_gate
 too_long w n h = rw (lt-leb n max_bits h)
 
@@ -64,14 +64,14 @@ row_all w bits =
     ]
 
 module _ (w bits t B : ℕ) where
-  short : block_gate B ≡ Pass → bits ≤ max_short_bits
+  short : block_gate B ≡ (Ok tt) → bits ≤ max_short_bits
       → and_then (row_gate (min w word_room) bits) (room_gate bits (min t number_room) B) ≡ and_then (row_gate w bits) (room_gate bits t B)
   short b h = rw (row_is w bits h, room_is bits t B (block_fits B b).0 h)
 
   long : (n : ℕ) → max_bits < n → and_then (row_gate (min w word_room) n) (room_gate n (min t number_room) B) ≡ and_then (row_gate w n) (room_gate n t B)
   long n h = rw (too_long (min w word_room) n h, too_long w n h)
 
-  past_block : block_gate B ≡ Pass
+  past_block : block_gate B ≡ (Ok tt)
       → and_then (row_gate (min w word_room) (wire_bits bits)) (room_gate (wire_bits bits) (min t number_room) B)
       ≡ and_then (row_gate w (wire_bits bits)) (room_gate (wire_bits bits) t B)
   unfolding wire_bits
@@ -88,9 +88,9 @@ module _ (w bits t B : ℕ) where
       go : (g : Gate) → block_gate B ≡ g
           → and_then g (and_then (row_gate (min w word_room) (wire_bits bits)) (room_gate (wire_bits bits) (min t number_room) B))
           ≡ and_then g (and_then (row_gate w (wire_bits bits)) (room_gate (wire_bits bits) t B))
-      go Pass e = past_block e
-      go (Refuse k) e = refl
+      go (Ok tt) e = past_block e
+      go (Err k) e = refl
 
-  pub over_limit : max_short_bits < bits → block_gate B ≡ Pass → nodes_gate w (wire_bits bits) t B ≡ Refuse TooManyBits
+  pub over_limit : max_short_bits < bits → block_gate B ≡ (Ok tt) → nodes_gate w (wire_bits bits) t B ≡ Err TooManyBits
   unfolding nodes_gate wire_bits
   over_limit h b = rw (lt-leb bits max_short_bits h, b, too_long w (max_bits + 1) (omega arith))

@@ -17,7 +17,7 @@ use Rattle.row.proofs.Gates.{row_fits}
 use Rattle.row.proofs.Surplus.{Same}
 use Rattle.mmt_layout.specs.Layout.{width, count}
 use Rattle.mmt_node.specs.Nodes.{node_at}
-use Rattle.mmt_layout.proofs.Admitted.{gate_fine}
+use Rattle.mmt_layout.proofs.Gates.{gate_fine}
 use Rattle.bp_spec.specs.declared.question.Question.{Question}
 use Rattle.bp_spec.specs.Questions.{promised}
 use Rattle.demands.proofs.SameWalk.{Alike}

@@ -8,8 +8,8 @@ use mathlib.Core.List.{List, [], ◌∷◌}
 use Prim.Native.Nat.{ℕ}
 use lib.IntN.{ℤ, negsuc}
 use lib.ListN.{length}
-use Rattle.row.specs.declared.gate.Gate.{Gate}
-use Rattle.row.specs.declared.gate.Gate.TheVariants.{Pass}
+use Rattle.row.specs.Gates.{Gate}
+use Rattle.std.specs.Prelude.{Ok}
 use Rattle.row.specs.Answer.{Answer}
 use Rattle.row.specs.Gates.{handle_gate, through}
 use Rattle.row.specs.Way.{Way, forward, backward}
@@ -41,7 +41,7 @@ module _ (ws : List ℕ) (n : ℕ) (s : List ℤ) (B : ℕ) where
   walks = walked ws n s B
 
   free_order : (a : Answer) → InOrder ws n s B (over_nodes [] n) (through nodes a)
-  free_order a = rw then_passed at (nodes_order ws n s B n [] Pass a (λ v i f. absurd (Memᴰ.not-nil i)))
+  free_order a = rw then_passed at (nodes_order ws n s B n [] (Ok tt) a (λ v i f. absurd (Memᴰ.not-nil i)))
 
   search_order : (w : Way) (i : ℕ) (r : ℤ) → InOrder ws n s B (over_nodes [] n) (search_answer w ws n s B i r)
   unfolding search_answer
@@ -62,7 +62,7 @@ module _ (ws : List ℕ) (n : ℕ) (s : List ℤ) (B : ℕ) where
   order_of (Close i) = search_order forward i (negsuc 0)
   order_of (Open i) = search_order backward i (negsuc 0)
   order_of (Enclose i) = search_order backward i (outward ws n i)
-  order_of Root = rw then_passed at (row_order ws n s B n [] Pass (handle.root n) (λ v i f. absurd (Memᴰ.not-nil i)))
+  order_of Root = rw then_passed at (row_order ws n s B n [] (Ok tt) (handle.root n) (λ v i f. absurd (Memᴰ.not-nil i)))
   order_of (Parent v) = node_order family.parent v
   order_of (FirstChild v) = bare_order n handle.first_child v
   order_of (LastChild v) = node_order sibling.last_child v

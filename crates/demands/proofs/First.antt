@@ -17,8 +17,8 @@ use lib.IntN.{ℤ}
 use lib.ListN.{length, drop}
 use Rattle.row.specs.Limits.{max_bits}
 use Rattle.row.specs.declared.refusal.Refusal.TheVariants.{TooManyBits, NotAParenthesis}
-use Rattle.row.specs.declared.gate.Gate.{Gate}
-use Rattle.row.specs.declared.gate.Gate.TheVariants.{Pass, Refuse}
+use Rattle.row.specs.Gates.{Gate}
+use Rattle.std.specs.Prelude.{Ok, Err}
 use Rattle.row.specs.Answer.{Answer, at, refused}
 use Rattle.row.specs.Gates.{words_for, row_gate, through, kept}
 use Rattle.row.specs.Tree.{one_tree}
@@ -70,7 +70,7 @@ read_may text ws = go (leb (length text) max_bits) refl (all_parentheses text)
   where
     go : (t : Bool) → leb (length text) max_bits ≡ t → (u : Bool)
         → May (max_bits + 1) texts
-        (through (cond t (cond u (row_gate (length ws) (length text)) (Refuse NotAParenthesis)) (Refuse TooManyBits)) (at (length text)))
+        (through (cond t (cond u (row_gate (length ws) (length text)) (Err NotAParenthesis)) (Err TooManyBits)) (at (length text)))
     go true e true =
         let l = leb-true (length text) max_bits e in
         may_through texts (max_bits + 1) (row_gate (length ws) (length text)) (at (length text))
@@ -80,8 +80,8 @@ read_may text ws = go (leb (length text) max_bits) refl (all_parentheses text)
 
 -- If the answer after a gate is a refusal, the old content is kept.
 keeps : {A : Type 0} (g : Gate) (x k : ℕ) (new old : A) → through g (at x) ≡ refused k → kept g new old ≡ old
-keeps Pass x k new old e = let z : ◌≡◌ {A = ℕ} 0 1 = cc in absurd (omega arith)
-keeps (Refuse j) x k new old e = refl
+keeps (Ok tt) x k new old e = let z : ◌≡◌ {A = ℕ} 0 1 = cc in absurd (omega arith)
+keeps (Err j) x k new old e = refl
 
 build_leaves : (ws : List ℕ) (n : ℕ) (s : List ℤ) (B k : ℕ) → build_answer ws n s B ≡ refused k → built_nodes ws n s B ≡ s
 unfolding built_nodes

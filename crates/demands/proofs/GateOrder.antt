@@ -17,29 +17,29 @@ use lib.IntN.{ℤ}
 use lib.ListN.{length}
 use Rattle.ints.proofs.Linear.{never_true}
 use Rattle.row.specs.declared.refusal.Refusal.TheVariants.{BlockSize as BadBlock, TooManyBits, TooFewWords, NotAHandle}
-use Rattle.row.specs.declared.gate.Gate.{Gate}
-use Rattle.row.specs.declared.gate.Gate.TheVariants.{Pass, Refuse}
+use Rattle.row.specs.Gates.{Gate}
+use Rattle.std.specs.Prelude.{Ok, Err}
 use Rattle.row.specs.Answer.{Answer}
 use Rattle.row.specs.Gates.{row_gate, handle_gate, through, and_then}
 use Rattle.row.specs.Tree.{opens, Handle}
 use Rattle.row.proofs.Gates.{row_many, row_few, row_passed}
 use Rattle.mmt_layout.specs.Layout.{block_gate, nodes_gate, max_block}
-use Rattle.mmt_layout.proofs.Admitted.{block_passed, room_few, gate_block, gate_row, gate_room, fine_gate}
+use Rattle.mmt_layout.proofs.Gates.{block_passed, room_few, gate_block, gate_row, gate_room, fine_gate}
 use Rattle.bp_spec.specs.AncestorCalls.{both_gate}
 use Rattle.demands.specs.First.{BlockSize, InOrder}
 use Rattle.bp_spec.specs.Ranges.{over_nodes, over_row, Among}
 use Rattle.row.proofs.Bools.{not_yes}
 
 -- ---- the order of the tests
-block_fine : (B : ℕ) → BlockSize B → block_gate B ≡ Pass
+block_fine : (B : ℕ) → BlockSize B → block_gate B ≡ (Ok tt)
 block_fine B f = sym (block_passed B (λ z. let e = f.eight in omega arith) f.small f.eights)
 
-block_bad : (B : ℕ) → (BlockSize B → ⊥) → block_gate B ≡ Refuse BadBlock
+block_bad : (B : ℕ) → (BlockSize B → ⊥) → block_gate B ≡ Err BadBlock
 unfolding block_gate
 block_bad B f = go (ltb 0 B) refl (leb B max_block) refl (eqb (B % 8) 0) refl
   where
     go : (a : Bool) → ltb 0 B ≡ a → (b : Bool) → leb B max_block ≡ b → (c : Bool) → eqb (B % 8) 0 ≡ c
-        → cond (a && b && c) Pass (Refuse BadBlock) ≡ Refuse BadBlock
+        → ◌≡◌ {A = Gate} (cond (a && b && c) (Ok tt) (Err BadBlock)) (Err BadBlock)
     go true p true q true r =
         let z = ltb-true 0 B p in
         let m = eqb-true (B % 8) 0 r in
@@ -48,13 +48,13 @@ block_bad B f = go (ltb 0 B) refl (leb B max_block) refl (eqb (B % 8) 0) refl
     go true p false q c r = refl
     go false p b q c r = refl
 
-pub not_handle : (ws : List ℕ) (n v : ℕ) → (Handle ws n v → ⊥) → handle_gate ws n v ≡ Refuse NotAHandle
+pub not_handle : (ws : List ℕ) (n v : ℕ) → (Handle ws n v → ⊥) → handle_gate ws n v ≡ Err NotAHandle
 unfolding handle_gate
 not_handle ws n v f = rw (not_yes (opens ws n v) f)
 
 -- The gate h refuses by 5 if a number of the list is no handle.
 abbrev pub Refuses : List ℕ → ℕ → List ℕ → Gate → Type 0
-Refuses ws n l h = (v : ℕ) → Among v l → (Handle ws n v → ⊥) → h ≡ Refuse NotAHandle
+Refuses ws n l h = (v : ℕ) → Among v l → (Handle ws n v → ⊥) → h ≡ Err NotAHandle
 
 module _ (ws : List ℕ) (n : ℕ) (s : List ℤ) (B b : ℕ) (l : List ℕ) (h : Gate) (a : Answer) (f : Refuses ws n l h) where
   pub nodes_order : InOrder ws n s B (over_nodes l b) (through (and_then (nodes_gate (length ws) n (length s) B) h) a)
@@ -87,11 +87,11 @@ refuses_both ws n a d w i f = elim (Memᴰ.cases_cons i) [
   | inr m ↦ second (opens ws n a) (handle_gate ws n d) (rw (Memᴰ.eq_of_singleton m) at (not_handle ws n w f))
 ]
   where
-    second : (t : Bool) (h : Gate) → h ≡ Refuse NotAHandle → and_then (cond t Pass (Refuse NotAHandle)) h ≡ Refuse NotAHandle
+    second : (t : Bool) (h : Gate) → h ≡ Err NotAHandle → and_then (cond t (Ok tt) (Err NotAHandle)) h ≡ Err NotAHandle
     second true h q = q
     second false h q = refl
 
 -- A gate with no other gate after it.
-pub then_passed : (g : Gate) (a : Answer) → through (and_then g Pass) a ≡ through g a
-then_passed Pass a = refl
-then_passed (Refuse k) a = refl
+pub then_passed : (g : Gate) (a : Answer) → through (and_then g (Ok tt)) a ≡ through g a
+then_passed (Ok tt) a = refl
+then_passed (Err k) a = refl

@@ -16,7 +16,7 @@ use denote.Ref.{Bor}
 use Rattle.row.specs.Answer.{Answer, at, nothing, refused}
 use Rattle.row.proofs.Gates.{row_passed}
 use Rattle.mmt_layout.specs.Layout.{Fine}
-use Rattle.mmt_layout.proofs.Admitted.{fine_gate}
+use Rattle.mmt_layout.proofs.Gates.{fine_gate}
 use Rattle.bp_spec.specs.RowCalls.{handle_answer}
 use Rattle.bp_spec.specs.HandleCalls.{node_answer}
 use Rattle.list_slice.specs.Seek.{sought, making, begun, held_after}

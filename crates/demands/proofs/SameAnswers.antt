@@ -18,8 +18,8 @@ use borrow.Author.Tests.{eqb-false}
 use lib.Dec.{eqb}
 use lib.IntN.{ℤ, pos, negsuc, ◌+ℤ◌, ◌-ℤ◌}
 use lib.ListN.{length}
-use Rattle.row.specs.declared.gate.Gate.{Gate}
-use Rattle.row.specs.declared.gate.Gate.TheVariants.{Pass, Refuse}
+use Rattle.row.specs.Gates.{Gate}
+use Rattle.std.specs.Prelude.{Ok, Err}
 use Rattle.row.specs.Answer.{Answer, at, nothing, refused}
 use Rattle.row.specs.Gates.{row_gate, handle_gate, and_then, through}
 use Rattle.row.specs.Tree.{one_tree}
@@ -28,7 +28,7 @@ use Rattle.row.proofs.Surplus.{Same, one_tree_same}
 use Rattle.bits_stretch.specs.declared.summary.Summary.{Summary}
 use Rattle.one_tree.specs.OneTree.{one_tree_answer}
 use Rattle.mmt_layout.specs.Layout.{count, nodes_gate}
-use Rattle.mmt_layout.proofs.Admitted.{gate_fine}
+use Rattle.mmt_layout.proofs.Gates.{gate_fine}
 use Rattle.bp_spec.specs.RowCalls.{handle_answer}
 use Rattle.mmt_node.specs.Nodes.{node_at}
 use Rattle.mmt_build.specs.Check.{built_test, as_built_answer}
@@ -54,24 +54,24 @@ use Rattle.demands.proofs.SameWalk.{Alike, walk_same, searches_same}
 use Rattle.demands.proofs.SameCalls.{gate_same, outward_same, first_child_same, is_leaf_same, parent_same, last_child_same, next_sibling_same, previous_sibling_same, built_same}
 
 -- ---- an answer after tests
-passed_same : (g h : Gate) (a b : Answer) → g ≡ h → (g ≡ Pass → a ≡ b) → through g a ≡ through h b
-passed_same Pass h a b e f = let p = f refl in λ i. through (e i) (p i)
-passed_same (Refuse k) h a b e f = ap (λ (x : Gate). through x b) e
+passed_same : (g h : Gate) (a b : Answer) → g ≡ h → (g ≡ (Ok tt) → a ≡ b) → through g a ≡ through h b
+passed_same (Ok tt) h a b e f = let p = f refl in λ i. through (e i) (p i)
+passed_same (Err k) h a b e f = ap (λ (x : Gate). through x b) e
 
-tested_same : (g h g' h' : Gate) (a b : Answer) → g ≡ h → (g ≡ Pass → (g' ≡ h') × (a ≡ b)) → through (and_then g g') a ≡ through (and_then h h') b
-tested_same Pass h g' h' a b e f = let p = f refl in λ i. through (and_then (e i) (p.0 i)) (p.1 i)
-tested_same (Refuse k) h g' h' a b e f = ap (λ (x : Gate). through (and_then x h') b) e
+tested_same : (g h g' h' : Gate) (a b : Answer) → g ≡ h → (g ≡ (Ok tt) → (g' ≡ h') × (a ≡ b)) → through (and_then g g') a ≡ through (and_then h h') b
+tested_same (Ok tt) h g' h' a b e f = let p = f refl in λ i. through (and_then (e i) (p.0 i)) (p.1 i)
+tested_same (Err k) h g' h' a b e f = ap (λ (x : Gate). through (and_then x h') b) e
 
 -- Tests 2 and 3 give the same result for both rows, and if they pass, the first n bits are the same.
 pub record RowAlike (ws vs : List ℕ) (n : ℕ) : Type 0 where
   pub gate : row_gate (length ws) n ≡ row_gate (length vs) n
-  pub bits : row_gate (length ws) n ≡ Pass → Same ws vs n
+  pub bits : row_gate (length ws) n ≡ (Ok tt) → Same ws vs n
 
 -- Tests 1 to 4 give the same result for both rows and buffers, and if they pass, the first n bits and the min-max nodes are the same.
 pub record NodesAlike (ws vs : List ℕ) (n : ℕ) (s t : List ℤ) (B : ℕ) : Type 0 where
   pub gate : nodes_gate (length ws) n (length s) B ≡ nodes_gate (length vs) n (length t) B
-  pub bits : nodes_gate (length ws) n (length s) B ≡ Pass → Same ws vs n
-  pub nodes : nodes_gate (length ws) n (length s) B ≡ Pass → Alike s t (count n B)
+  pub bits : nodes_gate (length ws) n (length s) B ≡ (Ok tt) → Same ws vs n
+  pub nodes : nodes_gate (length ws) n (length s) B ≡ (Ok tt) → Alike s t (count n B)
 
 -- ---- over the row alone
 module _ (ws vs : List ℕ) (n : ℕ) (same : RowAlike ws vs n) where
@@ -102,7 +102,7 @@ root_same n s t B some e = go (eqb n 0) refl
 
 module _ (ws vs : List ℕ) (n : ℕ) (s t : List ℤ) (B : ℕ) (same : NodesAlike ws vs n s t B) where
   abbrev Passed : Type 0
-  Passed = nodes_gate (length ws) n (length s) B ≡ Pass
+  Passed = nodes_gate (length ws) n (length s) B ≡ (Ok tt)
 
   -- An answer after tests 1 to 4; and the same with a gate of handles after these tests.
   passed : (a b : Answer) → (Passed → a ≡ b)

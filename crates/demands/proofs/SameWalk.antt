@@ -20,8 +20,8 @@ use Rattle.row.specs.Answer.{nothing}
 use Rattle.row.specs.Bits.{bit_at}
 use Rattle.row.specs.Way.{Way, forward, backward}
 use Rattle.row.proofs.Surplus.{Same}
-use Rattle.bits_stretch.specs.declared.bits.Scanned.{Scanned}
-use Rattle.bits_stretch.specs.declared.bits.Scanned.TheVariants.{Hit, Left}
+use Rattle.bits_stretch.specs.Scan.{Scanned}
+use Rattle.std.specs.declared.ops.ControlFlow.TheVariants.{Break, Continue}
 use Rattle.bits_stretch.specs.Scan.{less, scan}
 use Rattle.mmt_layout.specs.Layout.{inner, count}
 use Rattle.mmt_node.specs.Nodes.{node_at}
@@ -38,12 +38,12 @@ scan_same forward f g n e (suc c) a r h =
     let l = h (omega arith) in
     let q = less forward r (g a) in
     rw (e a (omega arith))
-    (ap (λ (x : Scanned). cond (eq_z q (pos 0)) (Hit a) x) (scan_same forward f g n e c (suc a) q (λ u. omega arith)))
+    (ap (λ (x : Scanned). cond (eq_z q (pos 0)) (Break a) x) (scan_same forward f g n e c (suc a) q (λ u. omega arith)))
 scan_same backward f g n e (suc c) a r h =
     let l = h (omega arith) in
     let q = less backward r (g (a + c)) in
     rw (e (a + c) (omega arith))
-    (ap (λ (x : Scanned). cond (eq_z q (pos 0)) (Hit (a + c)) x) (scan_same backward f g n e c a q (λ u. omega arith)))
+    (ap (λ (x : Scanned). cond (eq_z q (pos 0)) (Break (a + c)) x) (scan_same backward f g n e c a q (λ u. omega arith)))
 
 -- ---- the min-max nodes
 -- Both buffers have the same first m min-max nodes.
@@ -88,8 +88,8 @@ module _ (ws vs : List ℕ) (n : ℕ) (s t : List ℤ) (B : ℕ) (same : Same ws
 
   module _ (w : Way) where
     leaf_same : (x : Scanned) (c : ℕ) → in_leaf w ws n s B x c ≡ in_leaf w vs n t B x c
-    leaf_same (Hit j) c = refl
-    leaf_same (Left q) c = refl
+    leaf_same (Break j) c = refl
+    leaf_same (Continue q) c = refl
 
     land_same : (d : Descent) → land w ws n s B d ≡ land w vs n t B d
     land_same (leaf k r c) =
@@ -105,8 +105,8 @@ module _ (ws vs : List ℕ) (n : ℕ) (s t : List ℤ) (B : ℕ) (same : Same ws
     after_same misfit = refl
 
     in_start_same : (b : ℕ) (x : Scanned) → in_start w ws n s B b x ≡ in_start w vs n t B b x
-    in_start_same b (Hit j) = refl
-    in_start_same b (Left q) =
+    in_start_same b (Break j) = refl
+    in_start_same b (Continue q) =
         let k = inner n B + b in
         after_same (climb w (count n B) s k 0 k q 0) ∙ ap (after_climb w vs n t B) (climb_same w s t (count n B) e k 0 k q 0)
 

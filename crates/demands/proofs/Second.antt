@@ -16,7 +16,7 @@ use lib.ListN.{length, drop, length-append, length-drop}
 use lib.Seq.{drop_at}
 use Rattle.row.specs.Limits.{max_bits}
 use Rattle.ints.proofs.Linear.{never_true}
-use Rattle.row.specs.declared.gate.Gate.TheVariants.{Pass}
+use Rattle.std.specs.Prelude.{Ok}
 use Rattle.row.specs.Answer.{Answer, at, nothing, refused}
 use Rattle.row.specs.Gates.{row_gate}
 use Rattle.row.specs.Search.{fwd, bwd}
@@ -30,7 +30,7 @@ use Rattle.mmt_layout.specs.Layout.{width, count, nodes_gate, Fine}
 use Rattle.mmt_node.specs.Nodes.{AsBuilt, written}
 use Rattle.mmt_build.specs.Build.{built_nodes}
 use Rattle.mmt_build.specs.Check.{built_test, as_built_answer}
-use Rattle.mmt_layout.proofs.Admitted.{fine_gate}
+use Rattle.mmt_layout.proofs.Gates.{fine_gate}
 use Rattle.mmt_node.proofs.Written.{written_length, written_built}
 use Rattle.mmt_build.proofs.Tested.{built_true, built_yes}
 use Rattle.bp_spec.specs.declared.question.Question.TheVariants.{FwdSearch, BwdSearch}
@@ -57,11 +57,11 @@ tells fact false f g = record {
 tells_tree : (ws : List ℕ) (n : ℕ) → n ≤ max_bits → n ≤ 64 * length ws → Tells (OneTree ws n) (one_tree_answer ws n)
 unfolding one_tree_answer
 tells_tree ws n h k =
-    let o : row_gate (length ws) n ≡ Pass = sym (row_passed (length ws) n h (omega arith)) in
+    let o : row_gate (length ws) n ≡ (Ok tt) = sym (row_passed (length ws) n h (omega arith)) in
     rw o (tells (OneTree ws n) (one_tree ws n) (one_tree_true ws n) (one_tree_yes ws n))
 
 module _ (ws : List ℕ) (n : ℕ) (s : List ℤ) (B : ℕ) (fine : Fine (length ws) n (length s) B) where
-  gate : nodes_gate (length ws) n (length s) B ≡ Pass
+  gate : nodes_gate (length ws) n (length s) B ≡ (Ok tt)
   gate = fine_gate (length ws) n (length s) B fine
 
   tells_built : Tells (AsBuilt ws n s B) (as_built_answer ws n s B)

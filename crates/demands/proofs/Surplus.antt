@@ -17,8 +17,8 @@ use lib.IntN.{ℤ, pos}
 use lib.ListN.{length, take, drop, length-append, get_or-append}
 use lib.Seq.{take_at}
 use denote.Ref.{Bor}
-use Rattle.row.specs.declared.gate.Gate.{Gate}
-use Rattle.row.specs.declared.gate.Gate.TheVariants.{Pass, Refuse}
+use Rattle.row.specs.Gates.{Gate}
+use Rattle.std.specs.Prelude.{Ok, Err}
 use Rattle.row.specs.Answer.{Answer, at}
 use Rattle.row.specs.Gates.{words_for, row_gate, and_then, through}
 use Rattle.row.proofs.Surplus.{Same, words_beyond}
@@ -82,9 +82,9 @@ done_same : (ws vs : List ℕ) (n : ℕ) (s t : List ℤ) (B : ℕ) → SameRow 
 done_same ws vs n s t B same room = ap (λ (g : Gate). through g (at 0)) (nodes_gate_same ws vs n s t B same room)
 
 -- If the answer after a gate is no refusal, the gate passes.
-open_at : (g : Gate) → through g (at 0) ≡ at 0 → g ≡ Pass
-open_at Pass e = refl
-open_at (Refuse k) e = let z : ◌≡◌ {A = ℕ} 0 1 = cc in absurd (omega arith)
+open_at : (g : Gate) → through g (at 0) ≡ at 0 → g ≡ (Ok tt)
+open_at (Ok tt) e = refl
+open_at (Err k) e = let z : ◌≡◌ {A = ℕ} 0 1 = cc in absurd (omega arith)
 
 front : (ws : List ℕ) (n : ℕ) (s : List ℤ) (B : ℕ) → build_answer ws n s B ≡ at 0 → take (width * count n B) (built_nodes ws n s B) ≡ written ws n B
 unfolding built_nodes

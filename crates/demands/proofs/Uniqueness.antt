@@ -12,7 +12,7 @@ use Rattle.list_struct.specs.Listing.{created, stepped}
 use Rattle.list_slice.specs.WholeListing.{count_of, left_of}
 use Rattle.bp_spec.specs.Questions.{promised}
 use Rattle.demands.specs.Uniqueness.{Itself, Uniqueness}
-use Rattle.demands.proofs.AnswerInverses.{one_found, one_told, one_built, one_read, one_listed, one_made, one_step}
+use Rattle.demands.proofs.AnswerInverses.{one_found, one_told, one_built, one_read, one_made, one_step}
 
 itself : {A : Type 0} (d : A) → Itself d
 itself d a b e f = e ∙ sym f
@@ -29,7 +29,7 @@ uniqueness = record {
   read_left = λ text ws. itself (text_words text ws);
   made_listing = λ rising ws n s B v. one_made (created rising ws n s B v);
   step = λ l. one_step (stepped l);
-  list = λ rising ws n s B v c. one_listed (count_of rising ws n s B v c);
+  list = λ rising ws n s B v c. one_read (count_of rising ws n s B v c);
   list_left = λ rising ws n s B v out. itself (left_of rising ws n s B v out);
   number = λ k. itself (number_of k);
 }

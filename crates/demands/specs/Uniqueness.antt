@@ -14,7 +14,7 @@ use Rattle.mmt_build.specs.Build.{built_nodes, build_answer}
 use Rattle.mmt_build.specs.Check.{as_built_answer}
 use Rattle.list_struct.specs.Listing.{Listing, created, stepped}
 use Rattle.list_struct.specs.Paper.{paper_made, paper_step}
-use Rattle.list_slice.specs.WholeListing.{paper_listed, count_of, left_of}
+use Rattle.list_slice.specs.WholeListing.{count_of, left_of}
 use Rattle.bp_spec.specs.declared.question.Question.{Question}
 use Rattle.bp_spec.specs.Questions.{promised}
 
@@ -43,7 +43,7 @@ pub record Uniqueness : Type 0 where
   pub made_listing : (rising : Bool) (ws : Bor (List ℕ)) (n : ℕ) (s : Bor (List ℤ)) (B v : ℕ) → One paper_made (created rising ws n s B v)
   pub step : (l : Listing) → One paper_step (stepped l)
   -- `list`, and what it leaves in its slice.
-  pub list : (rising : Bool) (ws : List ℕ) (n : ℕ) (s : List ℤ) (B v c : ℕ) → One paper_listed (count_of rising ws n s B v c)
+  pub list : (rising : Bool) (ws : List ℕ) (n : ℕ) (s : List ℤ) (B v c : ℕ) → One paper_read (count_of rising ws n s B v c)
   pub list_left : (rising : Bool) (ws : List ℕ) (n : ℕ) (s : List ℤ) (B v : ℕ) (out : List ℤ) → Itself (left_of rising ws n s B v out)
   -- The number of a refusal.
   pub number : (k : Refusal) → Itself (number_of k)

@@ -1,5 +1,6 @@
 -- Laws of `min_z`, `max_z` and `eq_z`: the lesser and the greater of two integers, and the test whether two integers are equal.
 --   min_ud, max_ud: `min_z a b` (`max_z a b`) as an equation between naturals, to be passed to `omega`
+--   min_same, max_same: `min` (`max`) of an i64 is `min_z` (`max_z`)
 --   min_size, max_size: if |a| and |b| are at most m, so is the size of the lesser (the greater)
 --   eq_z_true, eq_z_false: if the test says true, the integers are equal; if it says false, they are not
 --   eq_z_yes, eq_z_no: the test says true of equal integers, false of different ones
@@ -15,6 +16,7 @@ use lib.IntN.{ℤ, pos, negsuc}
 use lib.Signed.{lt_z, le_z, ◌≤ℤ◌}
 use mir.Syntax.{w64}
 use mir.Val.{SFits, of_z}
+use Rattle.std.specs.Int.{int_min, int_max}
 use Rattle.ints.specs.Sides.{up, dn, size}
 use Rattle.ints.specs.Order.{min_z, max_z, eq_z}
 use Rattle.ints.proofs.Linear.{bits_≡}
@@ -35,6 +37,17 @@ max_ud a b = go (lt_z a b) refl
     go : (t : Bool) → lt_z a b ≡ t → up (cond t b a) + (dn a + dn b) ≡ max (up a + dn b) (up b + dn a) + dn (cond t b a)
     go true e = omega zsum
     go false e = omega zsum
+
+pub min_same : (a b : ℤ) → int_min a b ≡ min_z a b
+unfolding min_z
+min_same a b = refl
+
+pub max_same : (a b : ℤ) → int_max a b ≡ max_z a b
+max_same a b = go (lt_z b a) refl
+  where
+    go : (t : Bool) → lt_z b a ≡ t → cond t a b ≡ max_z a b
+    go true e = omega (zsum, max_ud a b)
+    go false e = omega (zsum, max_ud a b)
 
 pub min_size : (a b : ℤ) (m : ℕ) → size a ≤ m → size b ≤ m → size (min_z a b) ≤ m
 unfolding min_z

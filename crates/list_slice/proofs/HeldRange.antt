@@ -15,8 +15,8 @@ use native.Mathlib.Omega.{arith}
 use lib.Dec.{ltb}
 use lib.IntN.{ℤ, negsuc}
 use lib.ListN.{length}
-use Rattle.row.specs.declared.gate.Gate.{Gate}
-use Rattle.row.specs.declared.gate.Gate.TheVariants.{Pass, Refuse}
+use Rattle.row.specs.Gates.{Gate}
+use Rattle.std.specs.Prelude.{Ok, Err}
 use Rattle.row.specs.Answer.{Answer, at, nothing, refused}
 use Rattle.row.specs.Gates.{handle_gate, through}
 use Rattle.row.specs.Tree.{opens, closes}
@@ -53,9 +53,9 @@ module _ (P : ℕ → Type 0) where
   only_onward nothing next f = tt
   only_onward (refused k) next f = tt
 
-  only_through : (g : Gate) (a : Answer) → (g ≡ Pass → Only P a) → Only P (through g a)
-  only_through Pass a f = f refl
-  only_through (Refuse k) a f = tt
+  only_through : (g : Gate) (a : Answer) → (g ≡ (Ok tt) → Only P a) → Only P (through g a)
+  only_through (Ok tt) a f = f refl
+  only_through (Err k) a f = tt
 
   only_where : (t : Bool) (a : Answer) → (t ≡ true → Only P a) → Only P (cond t a nothing)
   only_where true a f = f refl

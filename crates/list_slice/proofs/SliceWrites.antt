@@ -1,10 +1,12 @@
 -- The output slice while the answers of the steps are written to it.
 --   below_small: an answer below n is in the range of the wire
+--   ended, goes_on: what the test of the code for `nothing` says about the answer
 --   answers_more, answers_last: the answers from h on, if h is not `nothing`, and if it is
 --   Writing: the first i answers are written, and the listing holds h
 --   writing_start, writing_step: before the first answer, and after one more
 --   written_full, written_ended: all answers are written if the slice is full, and if the last one was `nothing`
---   list_refused, list_passed: the promise of `list` if the constructor is refused, and if it succeeds
+--   list_err, list_ok: the promise of `list` if the constructor is refused, and if it succeeds
+--   sought_ok: what the constructor found, if it succeeds
 -- Assumes nothing.
 use mathlib.Core.Path.{◌≡◌, refl, sym, ap, ◌∙◌}
 use mathlib.Core.Bool.{Bool, true, false}
@@ -18,33 +20,49 @@ use lib.ListN.{length, take, drop, set, length-set, take-append-drop, length-map
 use lib.Seq.{length-take-le, take-suc-set, drop-drop, drop-set-lt}
 use Rattle.row.specs.Writes.{Writes}
 use Rattle.row.specs.Limits.{max_bits}
-use Rattle.row.specs.Answer.{Answer, at, nothing, refused}
+use Rattle.std.specs.Prelude.{Result, Ok, Err, Option, Some, None}
+use Rattle.std.specs.Result.{result_eq}
+use Rattle.std.specs.Option.{option_eq}
+use Rattle.row.specs.declared.refusal.Refusal.{Refusal}
+use Rattle.row.specs.Answer.{Answer, at, nothing, refused, number_of, paper_found}
 use Rattle.wire.specs.Answer.{wire_of, Small}
 use Rattle.list_slice.specs.Seek.{sought, held_after, Below}
-use Rattle.list_slice.proofs.FirstSought.{Unrefused}
-use Rattle.list_slice.specs.WholeListing.{is_nothing, answers, Wrote, count_of, left_of}
+use Rattle.list_slice.specs.WholeListing.{answers, Wrote, unless_refused, count_of, left_of}
 
 pub below_small : (n : ℕ) (a : Answer) → n ≤ max_bits → Below n a → Small a
 below_small n (at v) l b = omega arith
 below_small n nothing l b = tt
 below_small n (refused k) l b = tt
 
+-- ---- the test `held == Ok(None)`
+module _ (p : ℕ → ℕ → Bool) (q : Refusal → Refusal → Bool) where
+  abbrev is_end : Result (Option ℕ) Refusal → Bool
+  is_end f = result_eq (option_eq p) q f (Ok None)
+
+  pub ended : (f : Result (Option ℕ) Refusal) → is_end f ≡ true → paper_found f ≡ nothing
+  ended (Ok (Some v)) e = let z : ◌≡◌ {A = ℕ} 0 1 = cc in absurd (omega arith)
+  ended (Ok None) e = refl
+  ended (Err k) e = let z : ◌≡◌ {A = ℕ} 0 1 = cc in absurd (omega arith)
+
+  pub goes_on : (f : Result (Option ℕ) Refusal) → is_end f ≡ false → paper_found f ≡ nothing → ⊥
+  goes_on (Ok (Some v)) e h = let z : ◌≡◌ {A = ℕ} 0 1 = cc in absurd (omega arith)
+  goes_on (Ok None) e h = let z : ◌≡◌ {A = ℕ} 0 1 = cc in absurd (omega arith)
+  goes_on (Err k) e h = let z : ◌≡◌ {A = ℕ} 0 1 = cc in absurd (omega arith)
+
 module _ (next : Answer → Answer) where
   -- The answers as numbers of the wire.
   abbrev numbers : ℕ → Answer → List ℤ
   numbers c a = map wire_of (answers next c a)
 
-  pub answers_more : (c : ℕ) (h : Answer) → is_nothing h ≡ false → answers next (suc c) h ≡ h ∷ answers next c (next h)
+  answers_more : (c : ℕ) (h : Answer) → (h ≡ nothing → ⊥) → answers next (suc c) h ≡ h ∷ answers next c (next h)
   unfolding answers
   answers_more c (at v) e = refl
-  answers_more c nothing e = let z : ◌≡◌ {A = ℕ} 0 1 = cc in absurd (omega arith)
+  answers_more c nothing e = absurd (e refl)
   answers_more c (refused k) e = refl
 
-  pub answers_last : (c : ℕ) (h : Answer) → is_nothing h ≡ true → answers next (suc c) h ≡ h ∷ []
+  answers_last : (c : ℕ) (h : Answer) → h ≡ nothing → answers next (suc c) h ≡ h ∷ []
   unfolding answers
-  answers_last c (at v) e = let z : ◌≡◌ {A = ℕ} 0 1 = cc in absurd (omega arith)
-  answers_last c nothing e = refl
-  answers_last c (refused k) e = let z : ◌≡◌ {A = ℕ} 0 1 = cc in absurd (omega arith)
+  answers_last c h e = rw e
 
   module _ (a : Answer) (out₀ : List ℤ) where
     -- All numbers that are to be written.
@@ -94,7 +112,7 @@ module _ (next : Answer → Answer) where
         past : drop (i + 1) (set out i (wire_of h)) ≡ drop (i + 1) out₀
         past = drop-set-lt (i + 1) out i (wire_of h) (omega arith) ∙ sym (drop-drop 1 i out) ∙ ap (drop 1) w.back ∙ drop-drop 1 i out₀
 
-        pub writing_step : is_nothing h ≡ false → Writing (set out i (wire_of h)) (next h) (i + 1)
+        pub writing_step : (h ≡ nothing → ⊥) → Writing (set out i (wire_of h)) (next h) (i + 1)
         writing_step e = record {
           room = omega arith;
           same = length-set out i (wire_of h) ∙ w.same;
@@ -102,7 +120,7 @@ module _ (next : Answer → Answer) where
           back = past;
         }
 
-        pub written_ended : is_nothing h ≡ true → Wrote next a out₀ (set out i (wire_of h)) (i + 1)
+        pub written_ended : h ≡ nothing → Wrote next a out₀ (set out i (wire_of h)) (i + 1)
         written_ended e =
             let r : i + 1 ≤ length (set out i (wire_of h)) = rw (length-set out i (wire_of h)) (omega (arith, in_out)) in
             written (set out i (wire_of h)) (i + 1) r (sym (append-nil _) ∙ longer [] ∙ rw (more, answers_last left h e) at w.front) past
@@ -113,13 +131,20 @@ module _ (rising : Bool) (ws : List ℕ) (n : ℕ) (s : List ℤ) (B v : ℕ) (o
   abbrev pub ListPromise : Answer → List ℤ → Type 0
   ListPromise a t = Writes a (count_of rising ws n s B v (length out)) t (left_of rising ws n s B v out)
 
-  pub list_refused : (m : ℕ) → sought rising ws n s B v ≡ refused m → ListPromise (refused m) out
-  unfolding count_of left_of
-  list_refused m e = record { answer = rw e; slice = rw e }
+  -- The constructor answers f.
+  module _ {f : Result (Option ℕ) Refusal} (e : paper_found f ≡ sought rising ws n s B v) where
+    pub list_err : {k : Refusal} → f ≡ Err k → (a : Answer) → a ≡ refused (number_of k) → ListPromise a out
+    unfolding count_of left_of
+    list_err h a q = record { answer = rw (← e, h) q; slice = rw (← e, h) }
 
-  pub list_passed : (a : Answer) (i : ℕ) (t : List ℤ) → a ≡ sought rising ws n s B v → Unrefused a → Wrote (held_after rising ws n s B) a out t i
-      → ListPromise (at i) t
-  unfolding count_of left_of
-  list_passed (at w) i t e u h = record { answer = rw (sym e) (ap at h.count); slice = rw (sym e) h.left }
-  list_passed nothing i t e u h = record { answer = rw (sym e) (ap at h.count); slice = rw (sym e) h.left }
-  list_passed (refused m) i t e u h = absurd u
+    module _ {o : Option ℕ} (h : f ≡ Ok o) where
+      pub sought_ok : paper_found (Ok o) ≡ sought rising ws n s B v
+      sought_ok = rw h at e
+
+      pub list_ok : {i : ℕ} {t : List ℤ} → Wrote (held_after rising ws n s B) (paper_found (Ok o)) out t i → ListPromise (at i) t
+      unfolding count_of left_of
+      list_ok w = record { answer = rw (← sought_ok) (go o refused (ap at w.count)); slice = rw (← sought_ok) (go o (λ _. out) w.left) }
+        where
+          go : {A : Type 0} {x y : A} (o : Option ℕ) (z : ℕ → A) → x ≡ y → x ≡ unless_refused (paper_found (Ok o)) y z
+          go (Some j) z q = q
+          go None z q = q

@@ -1,14 +1,12 @@
 -- SCOPE, Listing children: the first handle of a listing, and what the listing holds after each step.
 -- The direction is a Bool: true for `children`, false for `rev_children`.
 -- Assumes nothing.
-use Rattle.std.specs.Prelude.{◌≡◌, Bool, true, false, List, ℕ, ◌<◌, ℤ}
-use Rattle.row.specs.Answer.{Answer, at, nothing, refused, paper_found}
-use Rattle.row.specs.Gates.{through}
+use Rattle.std.specs.Prelude.{Bool, true, false, List, ℕ, ◌<◌, ℤ}
+use Rattle.row.specs.Answer.{Answer, at, nothing, refused}
 use Rattle.bp_spec.specs.RowCalls.{first_child}
 use Rattle.bp_spec.specs.SearchPair.{Searches}
 use Rattle.bp_spec.specs.HandleCalls.{node_answer}
 use Rattle.bp_spec.specs.SiblingCalls.{last_child, next_sibling, previous_sibling}
-use Rattle.list_slice.specs.declared.seek.Start.{Start}
 
 -- The first handle: `first_child(v)` for `children`, `last_child(v)` for `rev_children`.
 abbrev pub start_call : Bool → List ℕ → ℕ → Searches → ℕ → Answer
@@ -41,11 +39,6 @@ abbrev pub held_after : Bool → List ℕ → ℕ → List ℤ → ℕ → Answe
 held_after rising ws n s B (at v) = node_answer (next_call rising) ws n s B v
 held_after rising ws n s B nothing = nothing
 held_after rising ws n s B (refused k) = nothing
-
--- The `Start` s fits the answer a that the constructor finds: its gate is that of `making`, its held answer that of `begun`.
-pub record Starts (a : Answer) (s : Start) : Type 0 where
-  pub answer : through s.gate (at 0) ≡ making a
-  pub held : paper_found s.held ≡ begun a
 
 -- If the answer is a position, it is below m.
 abbrev pub Below : ℕ → Answer → Type 0

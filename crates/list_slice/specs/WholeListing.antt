@@ -1,18 +1,10 @@
 -- SCOPE, Listing children: `list`, which writes the answers of a whole listing to a slice.
 -- Assumes nothing.
-use Rattle.std.specs.Prelude.{◌≡◌, Bool, true, false, List, [], ◌∷◌, ◌++◌, map, ℕ, zero, suc, ◌≤◌, ℤ, length, drop}
+use Rattle.std.specs.Prelude.{◌≡◌, Bool, List, [], ◌∷◌, ◌++◌, map, ℕ, zero, suc, ◌≤◌, ℤ, length, drop}
 use Rattle.row.specs.Limits.{max_bits}
-use Rattle.row.specs.Answer.{Answer, at, nothing, refused, number_of}
+use Rattle.row.specs.Answer.{Answer, at, nothing, refused}
 use Rattle.wire.specs.Answer.{wire_of}
 use Rattle.list_slice.specs.Seek.{sought, held_after, Below}
-use Rattle.list_slice.specs.declared.write.Listed.{Listed}
-use Rattle.list_slice.specs.declared.write.Listed.TheVariants.{Count, Refused}
-
--- Tests whether the answer is nothing.
-abbrev pub is_nothing : Answer → Bool
-is_nothing (at v) = false
-is_nothing nothing = true
-is_nothing (refused k) = false
 
 -- The answers l that follow an answer; none follow `nothing`.
 abbrev pub unless_ended : Answer → List Answer → List Answer
@@ -57,8 +49,3 @@ count_of rising ws n s B v c = unless_refused (sought rising ws n s B v) (at (le
 unfoldable pub left_of : Bool → List ℕ → ℕ → List ℤ → ℕ → ℕ → List ℤ → List ℤ
 left_of rising ws n s B v out =
     unless_refused (sought rising ws n s B v) (overlaid (map wire_of (answers_of rising ws n s B v (length out))) out) (λ _. out)
-
--- The specification answer of a `Listed`.
-abbrev pub paper_listed : Listed → Answer
-paper_listed (Count c) = at c
-paper_listed (Refused k) = refused (number_of k)

@@ -6,5 +6,5 @@
 mod seek;
 mod write;
 
-pub use seek::{Start, after, first, last};
-pub use write::{Listed, list};
+pub use seek::{after, first, last};
+pub use write::list;

@@ -3,34 +3,15 @@
 // The answers of the steps are written in order, as the C functions number them. A refused constructor leaves the slice unchanged.
 ghost use Rattle.std.specs.Prelude.{◌≡◌, length};
 ghost use Rattle.row.specs.Writes.{Writes};
-ghost use Rattle.row.specs.Answer.{paper_found};
-ghost use Rattle.list_slice.specs.Seek.{sought, held_after, Starts};
-ghost use Rattle.list_slice.specs.WholeListing.{is_nothing, Writable, Wrote, count_of, left_of, paper_listed};
+ghost use Rattle.row.specs.Answer.{paper_found, paper_read};
+ghost use Rattle.list_slice.specs.Seek.{sought, held_after};
+ghost use Rattle.list_slice.specs.WholeListing.{Writable, Wrote, count_of, left_of};
 
-use crate::seek::Start;
-use row::{Found, Gate, Refusal};
-
-// The answer of `list`: the number of answers written, or the refusal of the constructor.
-#[derive(Clone, Copy)]
-pub enum Listed {
-    Count(usize),
-    Refused(Refusal),
-}
-
-// Tests whether the answer is nothing.
-fn is_nothing(found: Found) -> bool
-    ensures { result ≡ is_nothing (paper_found found) }
-{
-    match found {
-        Found::At(_) => false,
-        Found::Nothing => true,
-        Found::Refused(_) => false,
-    }
-}
+use row::{Found, Refusal};
 
 // Starts a listing in the direction that `rising` says.
-fn start(words: &[u64], n: usize, nodes: &[i64], block: usize, rising: bool, v: usize) -> Start
-    ensures { Starts (sought rising words.now n nodes.now block v) result }
+fn start(words: &[u64], n: usize, nodes: &[i64], block: usize, rising: bool, v: usize) -> Found
+    ensures { paper_found result ≡ sought rising words.now n nodes.now block v }
 {
     if rising {
         crate::seek::first(words, n, nodes, block, v)
@@ -53,16 +34,14 @@ fn write_steps(
     ensures { Wrote (held_after rising words.now n nodes.now block) (paper_found first) out.old out.new result }
 {
     let mut held = first;
-    let mut i = 0;
-    while i < out.len() {
-        out[i] = wire::found(held);
-        i += 1;
-        if is_nothing(held) {
-            return i;
+    for (i, place) in out.iter_mut().enumerate() {
+        *place = wire::found(held);
+        if held == Ok(None) {
+            return i + 1;
         }
         held = crate::seek::after(words, n, nodes, block, rising, held);
     }
-    i
+    out.len()
 }
 
 // Writes the children of v to `out`, rising or falling. Returns the number of answers written, or the refusal of the constructor.
@@ -74,15 +53,10 @@ pub fn list(
     rising: bool,
     v: usize,
     out: &mut [i64],
-) -> Listed
-    ensures { Writes (paper_listed result) (count_of rising words.now n nodes.now block v (length out.old))
+) -> Result<usize, Refusal>
+    ensures { Writes (paper_read result) (count_of rising words.now n nodes.now block v (length out.old))
         out.new (left_of rising words.now n nodes.now block v out.old) }
 {
-    let s = start(words, n, nodes, block, rising, v);
-    let gate = s.gate;
-    let held = s.held;
-    match gate {
-        Gate::Refuse(k) => Listed::Refused(k),
-        Gate::Pass => Listed::Count(write_steps(words, n, nodes, block, rising, held, out)),
-    }
+    let held = start(words, n, nodes, block, rising, v)?;
+    Ok(write_steps(words, n, nodes, block, rising, Ok(held), out))
 }

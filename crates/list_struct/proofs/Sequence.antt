@@ -17,8 +17,8 @@ use native.Mathlib.Decide.{dec_lt}
 use lib.IntN.{ℤ}
 use lib.ListN.{length}
 use denote.Ref.{Bor}
-use Rattle.row.specs.declared.gate.Gate.{Gate}
-use Rattle.row.specs.declared.gate.Gate.TheVariants.{Pass, Refuse}
+use Rattle.row.specs.Gates.{Gate}
+use Rattle.std.specs.Prelude.{Ok, Err}
 use Rattle.row.specs.Answer.{Answer, at, nothing, refused, paper_found}
 use Rattle.row.specs.Gates.{handle_gate, through}
 use Rattle.row.specs.Tree.{opens}
@@ -104,7 +104,7 @@ module _ (rising : Bool) (ws : Bor (List ℕ)) (n : ℕ) (s : Bor (List ℤ)) (B
       go (refused m) w = refl
 
   -- ---- over nodes as built, on a handle
-  module _ (g : nodes_gate (length ws.now) n (length s.now) B ≡ Pass) (b : AsBuilt ws.now n s.now B) (o : opens ws.now n v ≡ true) where
+  module _ (g : nodes_gate (length ws.now) n (length s.now) B ≡ (Ok tt)) (b : AsBuilt ws.now n s.now B) (o : opens ws.now n v ≡ true) where
     -- A public call on a handle equals the call by definition.
     node_built : (call : List ℕ → ℕ → Searches → ℕ → Answer) (u : ℕ) → opens ws.now n u ≡ true
         → node_answer call ws.now n s.now B u ≡ call ws.now n (defined ws.now n) u
@@ -200,13 +200,13 @@ module _ (rising : Bool) (ws : Bor (List ℕ)) (n : ℕ) (s : Bor (List ℤ)) (B
   pub listing_ends : (k : ℕ) → n ≤ k → paper_found (q k).found ≡ nothing
   listing_ends k h = its_answers k ∙ made_ends rising ws n s B v k h
 
-  pub listing_built : nodes_gate (length ws.now) n (length s.now) B ≡ Pass → AsBuilt ws.now n s.now B → opens ws.now n v ≡ true
-      → (m.gate ≡ Pass) × ((k : ℕ) → paper_found (q k).found ≡ child_at rising ws.now n v k)
+  pub listing_built : nodes_gate (length ws.now) n (length s.now) B ≡ (Ok tt) → AsBuilt ws.now n s.now B → opens ws.now n v ≡ true
+      → (m.gate ≡ (Ok tt)) × ((k : ℕ) → paper_found (q k).found ≡ child_at rising ws.now n v k)
   listing_built g b o = (
     go m.gate (ap (λ (x : Outcome). x.answer) e ∙ made_built rising ws n s B v g b o),
     λ k. its_answers k ∙ answers_built rising ws n s B v g b o k,
   )
     where
-      go : (t : Gate) → through t (at 0) ≡ at 0 → t ≡ Pass
-      go Pass f = refl
-      go (Refuse k) f = let z : ◌≡◌ {A = ℕ} 0 1 = cc in absurd (omega arith)
+      go : (t : Gate) → through t (at 0) ≡ at 0 → t ≡ (Ok tt)
+      go (Ok tt) f = refl
+      go (Err k) f = let z : ◌≡◌ {A = ℕ} 0 1 = cc in absurd (omega arith)

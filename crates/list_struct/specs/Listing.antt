@@ -23,12 +23,17 @@ pub record Outcome : Type 0 where
 abbrev pub holding : Listing → Answer → Listing
 holding l a = record { words = l.words; n = l.n; nodes = l.nodes; block = l.block; rising = l.rising; held = a }
 
--- The constructor answers the refusal that it met, otherwise 0, and the listing holds the first handle or nothing.
-abbrev pub created : Bool → Bor (List ℕ) → ℕ → Bor (List ℤ) → ℕ → ℕ → Outcome
-created rising ws n s B v = record {
-  answer = making (sought rising ws.now n s.now B v);
-  listing = record { words = ws; n = n; nodes = s; block = B; rising = rising; held = begun (sought rising ws.now n s.now B v) };
+-- The result of a constructor that has found the answer a: it answers the refusal that it met, otherwise 0, and the listing holds the first
+-- handle or nothing.
+abbrev pub opened : Bool → Bor (List ℕ) → ℕ → Bor (List ℤ) → ℕ → Answer → Outcome
+opened rising ws n s B a = record {
+  answer = making a;
+  listing = record { words = ws; n = n; nodes = s; block = B; rising = rising; held = begun a };
 }
+
+-- The constructor makes the listing from what it finds.
+abbrev pub created : Bool → Bor (List ℕ) → ℕ → Bor (List ℤ) → ℕ → ℕ → Outcome
+created rising ws n s B v = opened rising ws n s B (sought rising ws.now n s.now B v)
 
 -- A step answers what the listing holds; the listing then holds the answer of the sibling call, or nothing.
 abbrev pub stepped : Listing → Outcome

@@ -11,7 +11,7 @@ use Rattle.list_struct.specs.Listing.{Listing, Outcome}
 abbrev pub paper_listing : Children → Listing
 paper_listing c = record { words = c.words; n = c.n; nodes = c.nodes; block = c.block; rising = c.rising; held = paper_found c.held }
 
--- The specification of a constructor's result: `Pass` is the value 0, and `Refuse(k)` is the refusal with the number of k.
+-- The specification of a constructor's result: a gate that has passed is the value 0, and `Err(k)` is the refusal with the number of k.
 abbrev pub paper_made : Made → Outcome
 paper_made m = record { answer = through m.gate (at 0); listing = paper_listing m.listing }
 

@@ -1,5 +1,5 @@
 // The struct of a listing, and the results of a constructor and a step.
-use row::{Found, Gate};
+use row::{Found, Refusal};
 
 // A listing. Its fields have the order in which every call takes its arguments.
 #[derive(Clone, Copy)]
@@ -15,9 +15,10 @@ pub struct Children<'a> {
 }
 
 // The result of a constructor. A refused constructor returns the refusal in `gate`, together with a listing that has ended.
+// Not a `Result`: SCOPE, Listing children, promises the listing beside a refusal too.
 #[derive(Clone, Copy)]
 pub struct Made<'a> {
-    pub gate: Gate,
+    pub gate: Result<(), Refusal>,
     pub listing: Children<'a>,
 }
 

@@ -1,6 +1,5 @@
 -- The node buffer during a build: one more block leaf is filled, the part of the block leaves is put back, one more inner node is filled.
 --   filled_more: one more block leaf is filled
---   leveled_start: no inner node is filled yet
 --   leveled_down: one more inner node is filled
 --   back: the buffer after its c entries from a on were passed as a slice of their own and contain ys afterwards
 --   back_length: `back` keeps the length of the buffer
@@ -11,7 +10,7 @@
 --   leveled_written: after all nodes are filled, the buffer begins with the entries that a build writes
 --   when_passed, build_refused: the buffer after a successful build and after a refused one
 -- Assumes nothing.
-use mathlib.Core.Path.{◌≡◌, refl, sym, ap, ◌∙◌}
+use mathlib.Core.Path.{◌≡◌, sym, ap, ◌∙◌}
 use mathlib.Core.List.{List, ◌++◌}
 use Prim.Native.Nat.{ℕ, ◌+◌, ◌-◌, ◌*◌, ◌≤◌, ◌<◌}
 use native.Mathlib.Omega.{arith}
@@ -20,13 +19,13 @@ use lib.IntN.{ℤ, pos}
 use lib.ListN.{get_or, length, take, drop, length-append, length-take, length-drop, get_or-append}
 use lib.Seq.{get_or-append-add, get_or-drop, drop-drop}
 use Rattle.row.specs.declared.refusal.Refusal.{Refusal}
-use Rattle.row.specs.declared.gate.Gate.TheVariants.{Pass, Refuse}
+use Rattle.std.specs.Prelude.{Ok, Err}
 use Rattle.bits_stretch.specs.declared.summary.Summary.{Summary}
 use Rattle.mmt_layout.specs.Layout.{width, leaves, inner, count, nodes_gate}
 use Rattle.mmt_node.specs.Nodes.{node_at, with_node, leaf_of, node_from, Ruled, written}
 use Rattle.mmt_build.specs.Build.{built_nodes}
 use Rattle.mmt_build.specs.Filling.{Filled, Leveled}
-use Rattle.mmt_layout.proofs.Admitted.{layout_leaves}
+use Rattle.mmt_layout.proofs.Gates.{layout_leaves}
 use Rattle.mmt_node.proofs.Nodes.{from_leaf, from_ext, put_length, node_put, other_number, node_other}
 use Rattle.mmt_node.proofs.Written.{ruled_of, written_is}
 
@@ -39,9 +38,6 @@ filled_more ws n B b part x h e f j l = elim (dec_lt j b) [
 ]
 
 -- ---- inner nodes
-pub leveled_start : (ws : List ℕ) (n : ℕ) (s : List ℤ) (B k : ℕ) → Ruled ws n s B k → Leveled ws n s B k s
-leveled_start ws n s B k r = record { nodes = r; past = λ i l. refl; same = refl }
-
 module _ (ws : List ℕ) (n : ℕ) (s t : List ℤ) (B : ℕ) (k : ℕ) (x : Summary) where
   -- if the nodes after k have their required entries, so do the nodes from k on after the write to node k
   put_rule : width * (k + 1) ≤ length t → x ≡ node_from ws n B (node_at t) k → Ruled ws n t B (k + 1) → Ruled ws n (with_node t k x) B k
@@ -123,10 +119,10 @@ module _ (ws : List ℕ) (n : ℕ) (s : List ℤ) (B : ℕ) (long : width * coun
 
 -- ---- the call
 module _ (ws : List ℕ) (n : ℕ) (s : List ℤ) (B : ℕ) where
-  pub when_passed : nodes_gate (length ws) n (length s) B ≡ Pass → written ws n B ++ drop (width * count n B) s ≡ built_nodes ws n s B
+  pub when_passed : nodes_gate (length ws) n (length s) B ≡ (Ok tt) → written ws n B ++ drop (width * count n B) s ≡ built_nodes ws n s B
   unfolding built_nodes
   when_passed g = rw g
 
-  pub build_refused : (k : Refusal) → nodes_gate (length ws) n (length s) B ≡ Refuse k → s ≡ built_nodes ws n s B
+  pub build_refused : (k : Refusal) → nodes_gate (length ws) n (length s) B ≡ Err k → s ≡ built_nodes ws n s B
   unfolding built_nodes
   build_refused k g = rw g

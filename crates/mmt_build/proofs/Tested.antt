@@ -1,6 +1,8 @@
 -- Laws of the as-built test: the comparison of two nodes, the loop over all nodes, and the answer of the call.
---   first_two: total and least of two nodes are the same
---   two_agree, two_differ: the third comparison decides if `first_two` holds; otherwise the nodes differ
+--   int_same: `==` of two entries
+--   twice: two negations
+--   compared, compared_is: `==` of two nodes is the comparison of their three entries
+--   unequal: `!=` of two nodes says the opposite of the comparison
 --   numbers_true, numbers_yes: the comparison says yes exactly if the nodes are the same
 --   node_test: the test of node k
 --   built_true, built_yes: the test of all nodes says yes exactly if the buffer is as built
@@ -9,21 +11,23 @@
 --   down, differs: the next node passes, so `Checked` goes on; or it fails, so the answer is no
 --   done: all nodes have passed, so the answer is yes
 --   when_refused, when_built, when_not: the promise of `as_built` holds for a refusal, for yes and for no
+--   when_told: it holds for the result of the test
 -- Assumes nothing.
-use mathlib.Core.Path.{◌≡◌, refl, sym, ap, ◌∙◌}
-use mathlib.Core.Bool.{Bool, true, false, ◌&&◌, and_assoc, true≢false}
+use mathlib.Core.Path.{◌≡◌, refl, sym, ap, ap₂, ◌∙◌}
+use mathlib.Core.Bool.{Bool, true, false, not, ◌&&◌, true≢false}
 use mathlib.Core.List.{List}
 use Prim.Native.Nat.{ℕ, suc, ◌*◌, ◌≤◌}
 use native.Mathlib.Decide.{dec_lt}
 use native.Mathlib.Omega.{arith}
 use lib.IntN.{ℤ}
+use Rattle.std.proofs.Common.{int_eq}
+use Rattle.std.proofs.lemmas.Bool.Decides.{Decides-int_eq}
 use lib.ListN.{length}
 use Rattle.ints.specs.Order.{eq_z}
-use Rattle.ints.proofs.Order.{eq_z_true, eq_z_yes}
+use Rattle.ints.proofs.Order.{eq_z_true, eq_z_yes, eq_z_no}
 use Rattle.row.specs.declared.refusal.Refusal.{Refusal}
-use Rattle.row.specs.declared.answer.Told.TheVariants.{Yes, No, Refused}
-use Rattle.row.specs.declared.gate.Gate.{Gate}
-use Rattle.row.specs.declared.gate.Gate.TheVariants.{Pass, Refuse}
+use Rattle.row.specs.Gates.{Gate}
+use Rattle.std.specs.Prelude.{Option, Some, Result, Ok, Err}
 use Rattle.row.specs.Tree.{all_below}
 use Rattle.row.proofs.Bools.{and_left, and_right, and_both}
 use Rattle.row.proofs.Tree.{all_each, each_all}
@@ -31,21 +35,32 @@ use Rattle.bits_stretch.specs.declared.summary.Summary.{Summary}
 use Rattle.mmt_layout.specs.Layout.{width, count, nodes_gate}
 use Rattle.mmt_node.specs.Nodes.{node_at, node_from, Ruled, AsBuilt}
 use Rattle.mmt_build.specs.Check.{same_summary, built_test, as_built_answer, AsBuiltPromise}
-use Rattle.mmt_layout.proofs.Admitted.{gate_fine}
+use Rattle.mmt_layout.proofs.Gates.{gate_fine}
 
 -- ---- the comparison of two nodes
+int_same : (a b : ℤ) → int_eq a b ≡ eq_z a b
+int_same a b = go (int_eq a b) refl
+  where
+    go : (t : Bool) → int_eq a b ≡ t → int_eq a b ≡ eq_z a b
+    go true e = e ∙ sym (eq_z_yes a b ((Decides-int_eq a b).0 e))
+    go false e = e ∙ sym (eq_z_no a b (λ q. true≢false (sym ((Decides-int_eq a b).1 q) ∙ e)))
+
+twice : (t : Bool) → not (not t) ≡ t
+twice true = refl
+twice false = refl
+
 module _ (x y : Summary) where
-  -- the first two comparisons, those of total and least
-  abbrev pub first_two : Bool
-  first_two = eq_z x.total y.total && eq_z x.least y.least
+  -- the comparison of all entries, as `==` makes it
+  abbrev pub compared : Bool
+  compared = int_eq x.total y.total && (int_eq x.least y.least && int_eq x.greatest y.greatest)
 
-  pub two_agree : first_two ≡ true → eq_z x.greatest y.greatest ≡ same_summary x y
+  compared_is : compared ≡ same_summary x y
   unfolding same_summary
-  two_agree h = rw (← and_assoc, h)
+  compared_is = simp (int_same x.total y.total, int_same x.least y.least, int_same x.greatest y.greatest)
 
-  pub two_differ : first_two ≡ false → false ≡ same_summary x y
-  unfolding same_summary
-  two_differ h = rw (← and_assoc, h)
+  -- `!=` says t of the nodes x and y, which are a and b
+  pub unequal : (a b : Summary) (t : Bool) → x ≡ a → y ≡ b → t ≡ not compared → same_summary a b ≡ not t
+  unequal a b t p q e = sym (ap₂ same_summary p q) ∙ sym compared_is ∙ sym (twice compared) ∙ sym (ap not e)
 
   pub numbers_true : same_summary x y ≡ true → x ≡ y
   unfolding same_summary
@@ -111,10 +126,10 @@ module _ (ws : List ℕ) (n : ℕ) (s : List ℤ) (B : ℕ) where
   abbrev gate : Gate
   gate = nodes_gate (length ws) n (length s) B
 
-  pub when_refused : (k : Refusal) → gate ≡ Refuse k → AsBuiltPromise ws n s B (Refused k)
+  pub when_refused : (a : Result (Option Bool) Refusal) (k : Refusal) → gate ≡ Err k → a ≡ Err k → AsBuiltPromise ws n s B a
   unfolding as_built_answer
-  when_refused k g = record {
-    answer = rw g;
+  when_refused a k g r = record {
+    answer = rw (r, g);
     decides = record {
       yes = λ o b. cc;
       built = λ e. let z : ◌≡◌ {A = ℕ} 0 1 = cc in absurd (omega arith);
@@ -122,13 +137,13 @@ module _ (ws : List ℕ) (n : ℕ) (s : List ℤ) (B : ℕ) where
     };
   }
 
-  pub when_built : gate ≡ Pass → built_test ws n s B ≡ true → AsBuiltPromise ws n s B Yes
+  when_built : gate ≡ (Ok tt) → built_test ws n s B ≡ true → AsBuiltPromise ws n s B (Ok (Some true))
   unfolding as_built_answer
   when_built g t =
       let b = built_true ws n s B (gate_fine (length ws) n (length s) B g).nodes t in
       record { answer = rw (g, t); decides = record { yes = λ o b'. refl; built = λ e. b; no = λ o f. absurd (f b) } }
 
-  pub when_not : gate ≡ Pass → built_test ws n s B ≡ false → AsBuiltPromise ws n s B No
+  when_not : gate ≡ (Ok tt) → built_test ws n s B ≡ false → AsBuiltPromise ws n s B (Ok (Some false))
   unfolding as_built_answer
   when_not g t = record {
     answer = rw (g, t);
@@ -138,3 +153,7 @@ module _ (ws : List ℕ) (n : ℕ) (s : List ℤ) (B : ℕ) where
       no = λ o f. refl;
     };
   }
+
+  pub when_told : (t : Bool) → gate ≡ (Ok tt) → t ≡ built_test ws n s B → AsBuiltPromise ws n s B (Ok (Some t))
+  when_told true g e = when_built g (sym e)
+  when_told false g e = when_not g (sym e)

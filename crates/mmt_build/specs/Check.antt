@@ -1,10 +1,8 @@
 -- The as-built test: its answer, and when it is yes (SCOPE, The node buffer: The build and the as-built test).
 -- Assumes nothing.
-use Rattle.std.specs.Prelude.{◌≡◌, Bool, cond, ◌&&◌, List, ℕ, ℤ, length}
+use Rattle.std.specs.Prelude.{◌≡◌, Bool, true, false, cond, ◌&&◌, List, ℕ, ℤ, length, Option, Some, Result, Ok}
 use Rattle.ints.specs.Order.{eq_z}
-use Rattle.row.specs.declared.answer.Told.{Told}
-use Rattle.row.specs.declared.answer.Told.TheVariants.{Yes, No}
-use Rattle.row.specs.declared.gate.Gate.TheVariants.{Pass}
+use Rattle.row.specs.declared.refusal.Refusal.{Refusal}
 use Rattle.row.specs.Answer.{Answer, at, paper_told}
 use Rattle.row.specs.Gates.{through}
 use Rattle.row.specs.Tree.{all_below}
@@ -25,12 +23,12 @@ unfoldable pub as_built_answer : List ℕ → ℕ → List ℤ → ℕ → Answe
 as_built_answer ws n s B = through (nodes_gate (length ws) n (length s) B) (cond (built_test ws n s B) (at 1) (at 0))
 
 -- After tests 1 to 4 the answer is yes exactly if the buffer is as built, and no otherwise.
-pub record DecidesBuilt (ws : List ℕ) (n : ℕ) (s : List ℤ) (B : ℕ) (a : Told) : Type 0 where
-  pub yes : nodes_gate (length ws) n (length s) B ≡ Pass → AsBuilt ws n s B → a ≡ Yes
-  pub built : a ≡ Yes → AsBuilt ws n s B
-  pub no : nodes_gate (length ws) n (length s) B ≡ Pass → (AsBuilt ws n s B → ⊥) → a ≡ No
+pub record DecidesBuilt (ws : List ℕ) (n : ℕ) (s : List ℤ) (B : ℕ) (a : Result (Option Bool) Refusal) : Type 0 where
+  pub yes : nodes_gate (length ws) n (length s) B ≡ (Ok tt) → AsBuilt ws n s B → a ≡ Ok (Some true)
+  pub built : a ≡ Ok (Some true) → AsBuilt ws n s B
+  pub no : nodes_gate (length ws) n (length s) B ≡ (Ok tt) → (AsBuilt ws n s B → ⊥) → a ≡ Ok (Some false)
 
 -- The promise of the as-built test: its answer, and that the answer is yes exactly if the buffer is as built.
-pub record AsBuiltPromise (ws : List ℕ) (n : ℕ) (s : List ℤ) (B : ℕ) (a : Told) : Type 0 where
+pub record AsBuiltPromise (ws : List ℕ) (n : ℕ) (s : List ℤ) (B : ℕ) (a : Result (Option Bool) Refusal) : Type 0 where
   pub answer : paper_told a ≡ as_built_answer ws n s B
   pub decides : DecidesBuilt ws n s B a

@@ -1,72 +1,33 @@
 // The as-built test. It needs no second buffer: a block leaf is compared with its bits, an inner node with its children in the same buffer.
 // It goes from the last node down to node 0, so that the children of a node are tested before the node.
-ghost use Rattle.std.specs.Prelude.{◌≡◌, length};
-ghost use Rattle.mmt_layout.specs.Layout.{Fine};
-ghost use Rattle.mmt_build.specs.Check.{same_summary, built_test, AsBuiltPromise};
-ghost use Rattle.mmt_build.specs.Requirements.{Testable};
+ghost use Rattle.std.specs.Prelude.{◌≡◌};
+ghost use Rattle.mmt_build.specs.Check.{built_test, AsBuiltPromise};
+ghost use Rattle.mmt_build.specs.Plan.{HasRoom};
 
-use crate::rule::wanted;
-use bits_lookup::Lookup;
-use bits_stretch::Summary;
-use mmt_layout::{admit, layout_of};
+use crate::plan::Plan;
+use mmt_layout::admit;
 use mmt_node::node_at;
-use row::{Gate, Told};
-
-// Tests whether two nodes have the same three entries.
-fn same(x: Summary, y: Summary) -> bool
-    ensures { result ≡ same_summary x y }
-{
-    x.total == y.total && x.least == y.least && x.greatest == y.greatest
-}
+use row::Told;
 
 // Tests whether every node has its required entries.
-fn all_wanted(
-    t: &Lookup,
-    words: &[u64],
-    n: usize,
-    nodes: &[i64],
-    block: usize,
-    first: usize,
-    all: usize,
-) -> bool
-    requires { Testable t.now (length words.now) n (length nodes.now) block first all }
-    ensures { result ≡ built_test words.now n nodes.now block }
+fn is_as_built(plan: &Plan, nodes: &[i64]) -> bool
+    requires { HasRoom plan.now nodes.now }
+    ensures { result ≡ built_test plan.now.words.now plan.now.n nodes.now plan.now.block }
 {
-    let mut k = all;
-    while 0 < k {
-        k -= 1;
-        let x = wanted(t, words, n, nodes, block, first, all, k);
-        if !same(node_at(nodes, k), x) {
+    // No `all`: node k is computed only if the nodes after it have passed. With a closure that requires this, the proof did not close.
+    for k in (0..plan.all()).rev() {
+        if node_at(nodes, k) != plan.wanted(nodes, k) {
             return false;
         }
     }
     true
 }
 
-// Computes the layout and the lookup table, then tests every node.
-fn is_as_built(words: &[u64], n: usize, nodes: &[i64], block: usize) -> bool
-    requires { Fine (length words.now) n (length nodes.now) block }
-    ensures { result ≡ built_test words.now n nodes.now block }
-{
-    let lay = layout_of(n, block);
-    let first = lay.inner;
-    let all = first + lay.leaves;
-    let t = bits_lookup::table();
-    all_wanted(&t, words, n, nodes, block, first, all)
-}
-
 // Tests whether the buffer begins with the entries that a build writes. It answers yes or no, after the tests for refusals 1 to 4.
 pub fn as_built(words: &[u64], n: usize, nodes: &[i64], block: usize) -> Told
     ensures { AsBuiltPromise words.now n nodes.now block result }
 {
-    match admit(words.len(), n, nodes.len(), block) {
-        Gate::Refuse(k) => Told::Refused(k),
-        Gate::Pass => {
-            if is_as_built(words, n, nodes, block) {
-                Told::Yes
-            } else {
-                Told::No
-            }
-        }
-    }
+    admit(words.len(), n, nodes.len(), block)?;
+    let plan = Plan::new(words, n, block);
+    Ok(Some(is_as_built(&plan, nodes)))
 }

@@ -6,8 +6,9 @@
 
 mod builder;
 mod check;
+mod plan;
 mod rule;
 
 pub use builder::build;
 pub use check::as_built;
-pub use rule::{leaf_summary, wanted};
+pub use plan::Plan;

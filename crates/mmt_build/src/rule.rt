@@ -1,38 +1,56 @@
 // The required entries of a min-max node: those of a block leaf from its bits, those of an inner node from its children.
-ghost use Rattle.std.specs.Prelude.{◌≡◌, length};
+ghost use Rattle.std.specs.Prelude.{◌≡◌, ◌*◌, ◌<◌, length};
+ghost use Rattle.mmt_layout.specs.Layout.{count};
 ghost use Rattle.mmt_node.specs.Nodes.{node_at, leaf_of, node_from};
-ghost use Rattle.mmt_build.specs.Requirements.{BlockAt, LaterRuled};
+ghost use Rattle.mmt_build.specs.Requirements.{Blocks};
+ghost use Rattle.mmt_build.specs.Plan.{HasParts, LaterRuled};
 
+use crate::plan::Plan;
 use bits_lookup::Lookup;
 use bits_stretch::Summary;
+use mmt_layout::layout_of;
 
-// Returns the summary of the bits of block b. The last block ends at n.
-pub fn leaf_summary(t: &Lookup, words: &[u64], n: usize, block: usize, b: usize) -> Summary
-    requires { BlockAt t.now (length words.now) n block b }
-    ensures { result ≡ leaf_of words.now n block b }
-{
-    let from = b * block;
-    bits_measure::stretch_summary(t, words, from, row::earlier(n, from + block))
-}
-
-// Returns the required entries of node k: those of a block leaf from its bits, those of an inner node from its children.
-// The nodes after k must have their required entries. The caller passes the number of inner nodes as `first` and the number of all nodes
-// as `all`, so that the layout is computed once.
-pub fn wanted(
-    t: &Lookup,
-    words: &[u64],
-    n: usize,
-    nodes: &[i64],
-    block: usize,
-    first: usize,
-    all: usize,
-    k: usize,
-) -> Summary
-    requires { LaterRuled t.now words.now n nodes.now block first all k }
-    ensures { result ≡ node_from words.now n block (node_at nodes.now) k }
-{
-    if k < first {
-        return mmt_node::inner_summary(nodes, all, k);
+impl<'a> Plan<'a> {
+    // Computes the layout and creates the lookup, once for all nodes.
+    pub fn new(words: &'a [u64], n: usize, block: usize) -> Plan<'a>
+        requires { Blocks (length words.now) n block }
+        ensures { HasParts words.now n block result }
+    {
+        Plan {
+            words,
+            n,
+            block,
+            layout: layout_of(n, block),
+            lookup: Lookup::new(),
+        }
     }
-    leaf_summary(t, words, n, block, k - first)
+
+    // Returns the number of all nodes.
+    pub fn all(&self) -> usize
+        ensures { result ≡ count self.now.n self.now.block }
+    {
+        self.layout.leaves + self.layout.inner
+    }
+
+    // Returns the summary of the bits of block b. The last block ends at n.
+    pub fn leaf_summary(&self, b: usize) -> Summary
+        requires { b * self.now.block < self.now.n }
+        ensures { result ≡ leaf_of self.now.words.now self.now.n self.now.block b }
+    {
+        let from = b * self.block;
+        let to = self.n.min(from + self.block);
+        bits_measure::stretch_summary(&self.lookup, self.words, from, to)
+    }
+
+    // Returns the required entries of node k: those of a block leaf from its bits, those of an inner node from its children.
+    // The nodes after k must have their required entries.
+    pub fn wanted(&self, nodes: &[i64], k: usize) -> Summary
+        requires { LaterRuled self.now nodes.now k }
+        ensures { result ≡ node_from self.now.words.now self.now.n self.now.block (node_at nodes.now) k }
+    {
+        if k < self.layout.inner {
+            return mmt_node::inner_summary(nodes, self.all(), k);
+        }
+        self.leaf_summary(k - self.layout.inner)
+    }
 }

@@ -1,3 +1,3 @@
 pub mod Powers
-pub mod Admitted
+pub mod Gates
 pub mod Places

@@ -26,7 +26,7 @@ use lib.Pow.{pow_mono, pow-add}
 use Rattle.mmt_layout.specs.declared.Layout.{Layout}
 use Rattle.mmt_layout.specs.Layout.{leaves, inner_for, inner, count}
 use Rattle.mmt_layout.proofs.Powers.{leaves_in, leaves_out}
-use Rattle.mmt_layout.proofs.Admitted.{layout_some, counted}
+use Rattle.mmt_layout.proofs.Gates.{layout_some, counted}
 
 -- ---- the counts
 module _ (n B : ℕ) (some : 0 < n) where

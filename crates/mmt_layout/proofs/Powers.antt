@@ -12,15 +12,17 @@
 --   inner_small: I is below 2^c if c is at least 1 and there are at most 2^c block leaves
 --   leaves_in: each of the first L blocks begins before n
 --   leaves_out: every later block would begin at n or after it
+--   leaves_up: L is n div B, rounded up
 --   leaves_small: there are at most 2^29 block leaves
 --   block_edge: every block begins at a byte boundary
 -- Assumes nothing.
 use mathlib.Core.Path.{◌≡◌, refl, sym, ap, ◌∙◌}
 use mathlib.Core.Bool.{Bool, true, false, cond}
-use Prim.Native.Nat.{ℕ, zero, suc, ◌+◌, ◌-◌, ◌*◌, ◌/◌, ◌%◌, ◌^◌, ◌≤◌, ◌<◌, max}
+use Prim.Native.Nat.{ℕ, zero, suc, ◌+◌, ◌-◌, ◌*◌, ◌/◌, ◌%◌, ◌^◌, ◌≤◌, ◌<◌, max, min}
 use native.Mathlib.Omega.{arith}
 use native.Mathlib.Nat.{suc-mul, mul_assoc, mul_comm, mul-mod_right, pow-succ', mul-le-mul_right, mul-le-mul_left, div-add-mod', mod-lt}
 use native.Mathlib.Decide.{dec_lt}
+use Rattle.std.proofs.lemmas.Grind.{div_ceil_times}
 use borrow.Author.Tests.{leb-true, leb-false}
 use lib.Dec.{leb}
 use lib.Pow.{pow_pos, pow_mono, high, ones_split, ones_lt}
@@ -114,6 +116,23 @@ module _ (n B : ℕ) (pB : 0 < B) where
   pub leaves_out : (b : ℕ) → leaves n B ≤ b → n ≤ b * B
   unfolding leaves
   leaves_out b h = omega (arith, mul-le-mul_right {m = (n + (B - 1)) / B} {n = b} B h, div-add-mod' (n + (B - 1)) B, mod-lt (n + (B - 1)) {m = B} pB)
+
+  -- n div B, rounded up
+  pub leaves_up : n / B + min 1 (n % B) ≡ leaves n B
+  unfolding leaves
+  leaves_up =
+      let u = (n + (B - 1)) / B in
+      let v = n / B + min 1 (n % B) in
+      let d = div_ceil_times n B pB in
+      let e = div-add-mod' (n + (B - 1)) B in
+      let m = mod-lt (n + (B - 1)) {m = B} pB in
+      elim (dec_lt u v) [
+        | yes l ↦ absurd (omega (arith, suc-mul u B, mul-le-mul_right {m = suc u} {n = v} B l))
+        | no k ↦ elim (dec_lt v u) [
+          | yes l ↦ absurd (omega (arith, suc-mul v B, mul-le-mul_right {m = suc v} {n = u} B l))
+          | no l ↦ omega arith
+        ]
+      ]
 
 -- a block has at least 8 bits, so at most 2^32 div 8 blocks are needed
 pub leaves_small : (n B : ℕ) → 8 ≤ B → n ≤ max_bits → leaves n B ≤ max_leaves

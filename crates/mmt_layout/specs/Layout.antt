@@ -1,12 +1,10 @@
 -- The layout of the min-max tree for n bits in blocks of B bits (SCOPE, The node buffer: The layout), and the tests for refusals 1 to 4
 -- (SCOPE, Refusals).
 -- Assumes nothing.
-use Rattle.std.specs.Prelude.{◌≡◌, cond, ◌&&◌, ℕ, zero, suc, ◌+◌, ◌-◌, ◌*◌, ◌/◌, ◌%◌, ◌^◌, ◌≤◌, max, ltb, leb, eqb}
+use Rattle.std.specs.Prelude.{◌≡◌, cond, ◌&&◌, ℕ, zero, suc, ◌+◌, ◌-◌, ◌*◌, ◌/◌, ◌%◌, ◌^◌, ◌≤◌, max, ltb, leb, eqb, Ok, Err}
 use Rattle.row.specs.Limits.{max_bits}
 use Rattle.row.specs.declared.refusal.Refusal.TheVariants.{BlockSize, TooFewNodes}
-use Rattle.row.specs.declared.gate.Gate.{Gate}
-use Rattle.row.specs.declared.gate.Gate.TheVariants.{Pass, Refuse}
-use Rattle.row.specs.Gates.{row_gate, and_then}
+use Rattle.row.specs.Gates.{Gate, row_gate, and_then}
 use Rattle.mmt_layout.specs.declared.Layout.{Layout}
 
 -- A block has at most 65,536 bits.
@@ -56,11 +54,11 @@ count n B = (layout_of n B).leaves + (layout_of n B).inner
 
 -- Test 1 refuses B if it is 0, above 65,536 or not a multiple of 8.
 unfoldable pub block_gate : ℕ → Gate
-block_gate B = cond (ltb 0 B && leb B max_block && eqb (B % 8) 0) Pass (Refuse BlockSize)
+block_gate B = cond (ltb 0 B && leb B max_block && eqb (B % 8) 0) (Ok tt) (Err BlockSize)
 
 -- Test 4 refuses a node buffer of t entries if t is below 3(L + I).
 unfoldable pub room_gate : ℕ → ℕ → ℕ → Gate
-room_gate n t B = cond (leb (width * count n B) t) Pass (Refuse TooFewNodes)
+room_gate n t B = cond (leb (width * count n B) t) (Ok tt) (Err TooFewNodes)
 
 -- Tests 1 to 4 in their order, for n bits in w words, a node buffer of t entries and block size B.
 unfoldable pub nodes_gate : ℕ → ℕ → ℕ → ℕ → Gate

@@ -1,13 +1,18 @@
 // The layout of the min-max tree in the node buffer: inner nodes first, then block leaves. The children of node k are nodes 2k+1 and 2k+2.
-// `admit` makes the tests for refusals 1 to 4, in this order. Every call that takes a node buffer begins with it.
-// After `Gate::Pass` the words and the node buffer are long enough for n bits (specs/Layout.antt, record `Fine`).
+// `admit` makes the tests for refusals 1 to 4, in this order. A call that only reads its node buffer makes them by `Admitted::new`, and
+// passes the admitted row on. What the tests have shown is an invariant of its type (specs/Layout.antt, record `Fine`).
 #![tactic(auto)]
 
-ghost use Rattle.std.specs.Prelude.{◌≡◌, ◌≤◌};
+ghost use Rattle.std.specs.Prelude.{◌≡◌, ◌≤◌, length, IfOk};
 ghost use Rattle.row.specs.Limits.{max_bits};
+ghost use Rattle.row.specs.Gates.{gate_of};
 ghost use Rattle.mmt_layout.specs.Layout.{inner_for, layout_of, block_gate, room_gate, nodes_gate, max_block, max_leaves};
+ghost use Rattle.mmt_layout.specs.Parts.{HasParts};
 
-use row::{Gate, Refusal};
+mod admitted;
+
+pub use admitted::Admitted;
+use row::Refusal;
 
 // A block has at most 65,536 bits.
 pub const MAX_BLOCK: usize = 65536;
@@ -45,7 +50,7 @@ pub fn layout_of(n: usize, block: usize) -> Layout
             inner: 0,
         };
     }
-    let l = (n + (block - 1)) / block;
+    let l = n.div_ceil(block);
     Layout {
         leaves: l,
         inner: inner_for(l),
@@ -53,44 +58,55 @@ pub fn layout_of(n: usize, block: usize) -> Layout
 }
 
 // Test 1: refuses a block size that is 0, above 65,536 or not a multiple of 8.
-fn admit_block(block: usize) -> Gate
+fn admit_block(block: usize) -> Result<(), Refusal>
     ensures { result ≡ block_gate block }
 {
-    if block == 0 {
-        return Gate::Refuse(Refusal::BlockSize);
+    if block == 0 || MAX_BLOCK < block || block % 8 != 0 {
+        return Err(Refusal::BlockSize);
     }
-    if MAX_BLOCK < block {
-        return Gate::Refuse(Refusal::BlockSize);
-    }
-    if block % 8 != 0 {
-        return Gate::Refuse(Refusal::BlockSize);
-    }
-    Gate::Pass
+    Ok(())
 }
 
 // Test 4: refuses a buffer of `nodes` entries if it is too short for the nodes of the layout.
 // It counts the whole nodes that fit into the buffer, so that no product has to be bounded.
-fn admit_room(n: usize, nodes: usize, block: usize) -> Gate
+fn admit_room(n: usize, nodes: usize, block: usize) -> Result<(), Refusal>
     requires { (n ≤ max_bits) × (8 ≤ block) × (block ≤ max_block) }
     ensures { result ≡ room_gate n nodes block }
 {
     let all = layout_of(n, block);
     if nodes / WIDTH < all.leaves + all.inner {
-        return Gate::Refuse(Refusal::TooFewNodes);
+        return Err(Refusal::TooFewNodes);
     }
-    Gate::Pass
+    Ok(())
 }
 
 // Makes tests 1 to 4 in their order, for n bits in `words` words and a node buffer of `nodes` entries.
 // The first test that fails gives the refusal.
-pub fn admit(words: usize, n: usize, nodes: usize, block: usize) -> Gate
+pub fn admit(words: usize, n: usize, nodes: usize, block: usize) -> Result<(), Refusal>
     ensures { result ≡ nodes_gate words n nodes block }
 {
-    match admit_block(block) {
-        Gate::Refuse(k) => Gate::Refuse(k),
-        Gate::Pass => match row::admit_row(words, n) {
-            Gate::Refuse(k) => Gate::Refuse(k),
-            Gate::Pass => admit_room(n, nodes, block),
-        },
+    admit_block(block)?;
+    row::admit_row(words, n)?;
+    admit_room(n, nodes, block)
+}
+
+impl<'a> Admitted<'a> {
+    // Makes tests 1 to 4 in their order.
+    pub fn new(
+        words: &'a [u64],
+        n: usize,
+        nodes: &'a [i64],
+        block: usize,
+    ) -> Result<Admitted<'a>, Refusal>
+        ensures gate { gate_of result ≡ nodes_gate (length words.now) n (length nodes.now) block }
+        ensures parts { IfOk result (HasParts words.now n nodes.now block) }
+    {
+        admit(words.len(), n, nodes.len(), block)?;
+        Ok(Admitted {
+            words,
+            n,
+            nodes,
+            block,
+        })
     }
 }

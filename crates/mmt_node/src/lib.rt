@@ -29,12 +29,9 @@ pub fn put_node(nodes: &mut [i64], k: usize, x: Summary)
     ensures { nodes.new ≡ with_node nodes.old k x }
 {
     let at = WIDTH * k;
-    let total = x.total;
-    let least = x.least;
-    let greatest = x.greatest;
-    nodes[at] = total;
-    nodes[at + 1] = least;
-    nodes[at + 2] = greatest;
+    nodes[at] = x.total;
+    nodes[at + 1] = x.least;
+    nodes[at + 2] = x.greatest;
 }
 
 // Returns the required entries of inner node k: the join of its two children, a copy of an only child, or (0, 0, 0) without children.
@@ -46,7 +43,7 @@ pub fn inner_summary(nodes: &[i64], count: usize, k: usize) -> Summary
     let left = 2 * k + 1;
     let right = 2 * k + 2;
     if right < count {
-        return bits_stretch::join(node_at(nodes, left), node_at(nodes, right));
+        return node_at(nodes, left).join(node_at(nodes, right));
     }
     if left < count {
         return node_at(nodes, left);

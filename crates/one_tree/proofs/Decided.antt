@@ -2,26 +2,26 @@
 --   when_refused: for a refusal, if the gate refuses
 --   when_tree: for yes, if the row is one tree
 --   when_not: for no, if the row is not one tree
+--   when_told: for the result of the test
 -- Assumes nothing.
 use mathlib.Core.Path.{◌≡◌, refl, sym, ◌∙◌}
-use mathlib.Core.Bool.{true, false, true≢false}
+use mathlib.Core.Bool.{Bool, true, false, true≢false}
 use mathlib.Core.List.{List}
 use Prim.Native.Nat.{ℕ}
 use native.Mathlib.Omega.{arith}
 use lib.ListN.{length}
 use Rattle.row.specs.declared.refusal.Refusal.{Refusal}
-use Rattle.row.specs.declared.answer.Told.TheVariants.{Yes, No, Refused}
-use Rattle.row.specs.declared.gate.Gate.TheVariants.{Pass, Refuse}
+use Rattle.std.specs.Prelude.{Option, Some, Result, Ok, Err}
 use Rattle.row.specs.Tree.{one_tree}
 use Rattle.row.specs.Gates.{row_gate}
 use Rattle.row.proofs.Tree.{one_tree_true, one_tree_yes}
 use Rattle.one_tree.specs.OneTree.{one_tree_answer, OneTreePromise}
 
 module _ (ws : List ℕ) (n : ℕ) where
-  pub when_refused : (k : Refusal) → row_gate (length ws) n ≡ Refuse k → OneTreePromise ws n (Refused k)
+  pub when_refused : (a : Result (Option Bool) Refusal) (k : Refusal) → row_gate (length ws) n ≡ Err k → a ≡ Err k → OneTreePromise ws n a
   unfolding one_tree_answer
-  when_refused k g = record {
-    answer = rw g;
+  when_refused a k g r = record {
+    answer = rw (r, g);
     decides = record {
       yes = λ o t. cc;
       tree = λ e. let z : ◌≡◌ {A = ℕ} 0 1 = cc in absurd (omega arith);
@@ -29,7 +29,7 @@ module _ (ws : List ℕ) (n : ℕ) where
     };
   }
 
-  pub when_tree : row_gate (length ws) n ≡ Pass → one_tree ws n ≡ true → OneTreePromise ws n Yes
+  when_tree : row_gate (length ws) n ≡ (Ok tt) → one_tree ws n ≡ true → OneTreePromise ws n (Ok (Some true))
   unfolding one_tree_answer
   when_tree g b = record {
     answer = rw (g, b);
@@ -40,7 +40,7 @@ module _ (ws : List ℕ) (n : ℕ) where
     };
   }
 
-  pub when_not : row_gate (length ws) n ≡ Pass → one_tree ws n ≡ false → OneTreePromise ws n No
+  when_not : row_gate (length ws) n ≡ (Ok tt) → one_tree ws n ≡ false → OneTreePromise ws n (Ok (Some false))
   unfolding one_tree_answer
   when_not g b = record {
     answer = rw (g, b);
@@ -50,3 +50,7 @@ module _ (ws : List ℕ) (n : ℕ) where
       no = λ o t. refl;
     };
   }
+
+  pub when_told : (t : Bool) → row_gate (length ws) n ≡ (Ok tt) → t ≡ one_tree ws n → OneTreePromise ws n (Ok (Some t))
+  when_told true g e = when_tree g (sym e)
+  when_told false g e = when_not g (sym e)

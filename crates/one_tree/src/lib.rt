@@ -13,16 +13,17 @@ ghost use Rattle.row.specs.Tree.{one_tree};
 ghost use Rattle.bits_stretch.specs.Summary.{summary_of};
 ghost use Rattle.one_tree.specs.OneTree.{OneTreePromise};
 
+use bits_lookup::Lookup;
 use bits_measure::stretch_summary;
 use bits_stretch::Summary;
-use row::{Gate, Told};
+use row::Told;
 
 // Returns the summary of all bits but the last.
 fn body_summary(words: &[u64], n: usize) -> Summary
     requires { (2 ≤ n) × (n ≤ max_bits) × (n ≤ 64 * length words.now) }
     ensures { result ≡ summary_of (bit_at words.now) 0 (n - 1) }
 {
-    let t = bits_lookup::table();
+    let t = Lookup::new();
     stretch_summary(&t, words, 0, n - 1)
 }
 
@@ -38,27 +39,13 @@ fn is_one_tree(words: &[u64], n: usize) -> bool
     requires { (n ≤ max_bits) × (n ≤ 64 * length words.now) }
     ensures { result ≡ one_tree words.now n }
 {
-    if n < 2 {
-        return false;
-    }
-    if row::opens_at(words, n - 1) {
-        return false;
-    }
-    is_body(body_summary(words, n))
+    2 <= n && !row::opens_at(words, n - 1) && is_body(body_summary(words, n))
 }
 
 // Tests whether a row is one tree. Answers yes or no, after refusals 2 and 3.
 pub fn one_tree(words: &[u64], n: usize) -> Told
     ensures { OneTreePromise words.now n result }
 {
-    match row::admit_row(words.len(), n) {
-        Gate::Refuse(k) => Told::Refused(k),
-        Gate::Pass => {
-            if is_one_tree(words, n) {
-                Told::Yes
-            } else {
-                Told::No
-            }
-        }
-    }
+    row::admit_row(words.len(), n)?;
+    Ok(Some(is_one_tree(words, n)))
 }

@@ -1,16 +1,8 @@
 -- The specification answers, and which one each case of an answer type means (SCOPE, Refusals).
 -- Assumes nothing.
-use Rattle.std.specs.Prelude.{ℕ}
+use Rattle.std.specs.Prelude.{Bool, true, false, ℕ, Option, Some, None, Result, Ok, Err}
 use Rattle.row.specs.declared.refusal.Refusal.{Refusal}
 use Rattle.row.specs.declared.refusal.Refusal.TheVariants.{BlockSize, TooManyBits, TooFewWords, TooFewNodes, NotAHandle, NotAParenthesis, NotOneTree, NodesMisfit}
-use Rattle.row.specs.declared.answer.Found.{Found}
-use Rattle.row.specs.declared.answer.Found.TheVariants.{At, Nothing, Refused}
-use Rattle.row.specs.declared.answer.Told.{Told}
-use Rattle.row.specs.declared.answer.Told.TheVariants.{Yes, No, Nothing as NothingTold, Refused as RefusedTold}
-use Rattle.row.specs.declared.answer.Built.{Built}
-use Rattle.row.specs.declared.answer.Built.TheVariants.{Done, Refused as RefusedBuilt}
-use Rattle.row.specs.declared.answer.Read.{Read}
-use Rattle.row.specs.declared.answer.Read.TheVariants.{Bits, Refused as RefusedRead}
 
 -- A specification answer is a value, nothing, or a refusal with its number. The value is a position or a count; yes is 1,
 -- no is 0, and the success of a build is 0.
@@ -31,24 +23,24 @@ number_of NotOneTree = 7
 number_of NodesMisfit = 8
 
 -- The specification answer of a search, and of every other call that returns a position.
-abbrev pub paper_found : Found → Answer
-paper_found (At i) = at i
-paper_found Nothing = nothing
-paper_found (Refused k) = refused (number_of k)
+abbrev pub paper_found : Result (Option ℕ) Refusal → Answer
+paper_found (Ok (Some i)) = at i
+paper_found (Ok None) = nothing
+paper_found (Err k) = refused (number_of k)
 
 -- The specification answer of a yes-or-no call: yes is the value 1, no is the value 0.
-abbrev pub paper_told : Told → Answer
-paper_told Yes = at 1
-paper_told No = at 0
-paper_told NothingTold = nothing
-paper_told (RefusedTold k) = refused (number_of k)
+abbrev pub paper_told : Result (Option Bool) Refusal → Answer
+paper_told (Ok (Some true)) = at 1
+paper_told (Ok (Some false)) = at 0
+paper_told (Ok None) = nothing
+paper_told (Err k) = refused (number_of k)
 
 -- The specification answer of a build: success is the value 0.
-abbrev pub paper_built : Built → Answer
-paper_built Done = at 0
-paper_built (RefusedBuilt k) = refused (number_of k)
+abbrev pub paper_built : Result (Unit {0}) Refusal → Answer
+paper_built (Ok _) = at 0
+paper_built (Err k) = refused (number_of k)
 
 -- The specification answer of the text reader: the bit count.
-abbrev pub paper_read : Read → Answer
-paper_read (Bits n) = at n
-paper_read (RefusedRead k) = refused (number_of k)
+abbrev pub paper_read : Result ℕ Refusal → Answer
+paper_read (Ok n) = at n
+paper_read (Err k) = refused (number_of k)

@@ -7,44 +7,37 @@ use crate::bits::opens_at;
 use crate::limit::MAX_BITS;
 use crate::refusal::Refusal;
 
-// Result of the tests before a call: all pass, or one of them refuses.
-#[derive(Clone, Copy)]
-pub enum Gate {
-    Pass,
-    Refuse(Refusal),
-}
-
-// Returns the number of words that n bits need. The bound on n keeps the sum from overflowing.
+// Returns the number of words that n bits need.
 pub fn words_for(n: usize) -> usize
     requires { n ≤ max_bits }
     ensures { result ≡ words_for n }
 {
-    (n + 63) / 64
+    n.div_ceil(64)
 }
 
 // Tests a row of n bits in `words` words: refusal 2, then refusal 3.
-pub fn admit_row(words: usize, n: usize) -> Gate
+pub fn admit_row(words: usize, n: usize) -> Result<(), Refusal>
     ensures { result ≡ row_gate words n }
 {
     if MAX_BITS < n {
-        return Gate::Refuse(Refusal::TooManyBits);
+        return Err(Refusal::TooManyBits);
     }
     if words < words_for(n) {
-        return Gate::Refuse(Refusal::TooFewWords);
+        return Err(Refusal::TooFewWords);
     }
-    Gate::Pass
+    Ok(())
 }
 
 // Tests whether v is a handle: refusal 5. The row has passed refusals 2 and 3 before.
-pub fn admit_handle(words: &[u64], n: usize, v: usize) -> Gate
+pub fn admit_handle(words: &[u64], n: usize, v: usize) -> Result<(), Refusal>
     requires { n ≤ 64 * length words.now }
     ensures { result ≡ handle_gate words.now n v }
 {
     if n <= v {
-        return Gate::Refuse(Refusal::NotAHandle);
+        return Err(Refusal::NotAHandle);
     }
     if opens_at(words, v) {
-        return Gate::Pass;
+        return Ok(());
     }
-    Gate::Refuse(Refusal::NotAHandle)
+    Err(Refusal::NotAHandle)
 }

@@ -11,12 +11,10 @@ mod answer;
 mod bits;
 mod gate;
 mod limit;
-mod position;
 mod refusal;
 
-pub use answer::{Built, Found, Read, Told};
+pub use answer::{Found, Told};
 pub use bits::{byte, byte_of, opens_at};
-pub use gate::{Gate, admit_handle, admit_row, words_for};
+pub use gate::{admit_handle, admit_row, words_for};
 pub use limit::{MAX_BITS, MAX_SHORT_BITS};
-pub use position::{earlier, later};
-pub use refusal::{Refusal, number};
+pub use refusal::Refusal;

@@ -1,31 +1,24 @@
-// The reasons for which a call refuses, in the order of their numbers 1 to 8 (SCOPE, Refusals).
+// The reasons for which a call refuses, with their numbers (SCOPE, Refusals).
 ghost use Rattle.std.specs.Prelude.{◌≡◌};
 ghost use Rattle.row.specs.Answer.{number_of};
 
-#[derive(Clone, Copy)]
+#[derive(Clone, Copy, Debug, PartialEq, Eq)]
 pub enum Refusal {
-    BlockSize,
-    TooManyBits,
-    TooFewWords,
-    TooFewNodes,
-    NotAHandle,
-    NotAParenthesis,
-    NotOneTree,
-    NodesMisfit,
+    BlockSize = 1,
+    TooManyBits = 2,
+    TooFewWords = 3,
+    TooFewNodes = 4,
+    NotAHandle = 5,
+    NotAParenthesis = 6,
+    NotOneTree = 7,
+    NodesMisfit = 8,
 }
 
-// Returns the number of a refusal (SCOPE, Refusals).
-pub fn number(k: Refusal) -> u64
-    ensures { result ≡ number_of k }
-{
-    match k {
-        Refusal::BlockSize => 1,
-        Refusal::TooManyBits => 2,
-        Refusal::TooFewWords => 3,
-        Refusal::TooFewNodes => 4,
-        Refusal::NotAHandle => 5,
-        Refusal::NotAParenthesis => 6,
-        Refusal::NotOneTree => 7,
-        Refusal::NodesMisfit => 8,
+impl Refusal {
+    // Returns the number of the refusal.
+    pub fn number(self) -> u64
+        ensures { result ≡ number_of self }
+    {
+        self as u64
     }
 }

@@ -2,7 +2,6 @@
 #![tactic(auto)]
 
 mod outlines;
-mod say;
 mod searches;
 
 use std::io;

@@ -1,42 +1,29 @@
 // Prints the levels and the child listings, in both directions, of row T and of larger trees. Also runs positions that are no handles, and a
 // foreign node buffer that leads a listing to a close bit.
-use crate::say;
-use list_slice::Listed;
-use row::{Built, Found, Refusal};
+use row::{Found, Refusal};
 use std::io;
 
-// Prints a refusal and ends the line.
-fn refused(rt: &impl Print, k: Refusal) -> io::Result<()> {
-    say::number(rt, b" refused", row::number(k))?;
-    say::line(rt, b"")
-}
-
-fn tell_built(rt: &impl Print, b: Built) -> io::Result<()> {
+fn tell_built(rt: &impl Print, b: Result<(), Refusal>) -> io::Result<()> {
     match b {
-        Built::Done => Ok(()),
-        Built::Refused(k) => say::number(rt, b"build refused", row::number(k)),
+        Ok(()) => Ok(()),
+        Err(k) => test_say::number(rt, b"build refused", k.number()),
     }
 }
 
 fn tell(rt: &impl Print, f: Found) -> io::Result<()> {
     match f {
-        Found::At(j) => say::number(rt, b"", j as u64),
-        Found::Nothing => say::line(rt, b" nothing"),
-        Found::Refused(k) => refused(rt, k),
+        Ok(Some(j)) => test_say::number(rt, b"", j as u64),
+        Ok(None) => test_say::line(rt, b" nothing"),
+        Err(k) => test_say::number_line(rt, b" refused", k.number()),
     }
 }
 
-// Prints an answer as `list` writes it: a position, -1 for nothing, or -1 - k for refusal k. It compares the bits of x, as a u64, with their
-// complement: if x is negative, the complement is the smaller one and equals -1 - x.
+// Prints an answer as `list` writes it.
 fn tell_number(rt: &impl Print, x: i64) -> io::Result<()> {
-    let bits = wire::to_word(x);
-    let less = u64::MAX - bits;
-    if bits < less {
-        say::number(rt, b"", bits)
-    } else if less == 0 {
-        say::line(rt, b" nothing")
-    } else {
-        say::number(rt, b" refused", less)
+    match test_say::answer(x) {
+        Ok(Some(j)) => test_say::number(rt, b"", j),
+        Ok(None) => test_say::line(rt, b" nothing"),
+        Err(k) => test_say::number(rt, b" refused", k),
     }
 }
 
@@ -59,30 +46,20 @@ fn along(
     from: Found,
 ) -> io::Result<()> {
     let mut f = from;
-    let mut left = n;
-    while 0 < left {
-        left -= 1;
+    for _ in 0..n {
         tell(rt, f)?;
-        match f {
-            Found::At(v) => {
-                f = beside(words, n, nodes, rising, v);
-            }
-            Found::Nothing => {
-                return Ok(());
-            }
-            Found::Refused(_) => {
-                return Ok(());
-            }
-        }
+        let Ok(Some(v)) = f else {
+            return Ok(());
+        };
+        f = beside(words, n, nodes, rising, v);
     }
     Ok(())
 }
 
 // Prints the levels from 0 to `deepest` - 1, in both directions. Callers pass a `deepest` for which the last of these levels is empty.
 fn levels(rt: &impl Print, words: &[u64], n: usize, nodes: &[i64], deepest: u64) -> io::Result<()> {
-    let mut k = 0;
-    while k < deepest {
-        say::number(rt, b"level", k)?;
+    for k in 0..deepest {
+        test_say::number(rt, b"level", k)?;
         along(
             rt,
             words,
@@ -91,7 +68,7 @@ fn levels(rt: &impl Print, words: &[u64], n: usize, nodes: &[i64], deepest: u64)
             true,
             bp::level_leftmost(words, n, nodes, 8, k),
         )?;
-        say::number(rt, b"level", k)?;
+        test_say::number(rt, b"level", k)?;
         along(
             rt,
             words,
@@ -100,26 +77,15 @@ fn levels(rt: &impl Print, words: &[u64], n: usize, nodes: &[i64], deepest: u64)
             false,
             bp::level_rightmost(words, n, nodes, 8, k),
         )?;
-        k += 1;
     }
     Ok(())
 }
 
 fn answers(rt: &impl Print, out: &[i64], count: usize) -> io::Result<()> {
-    let end = row::earlier(count, out.len());
-    let mut i = 0;
-    while i < end {
-        tell_number(rt, out[i])?;
-        i += 1;
+    for &x in out.iter().take(count) {
+        tell_number(rt, x)?;
     }
     Ok(())
-}
-
-fn tell_listed(rt: &impl Print, l: Listed, out: &[i64]) -> io::Result<()> {
-    match l {
-        Listed::Count(c) => answers(rt, out, c),
-        Listed::Refused(k) => refused(rt, k),
-    }
 }
 
 // Prints the children of the outline node v, in one direction.
@@ -133,18 +99,18 @@ fn children(
     v: usize,
 ) -> io::Result<()> {
     let mut out = [0i64; 70];
-    say::number(rt, b"children of", v as u64)?;
-    let listed = list_slice::list(words, n, nodes, block, rising, v, &mut out);
-    tell_listed(rt, listed, &out)
+    test_say::number(rt, b"children of", v as u64)?;
+    match list_slice::list(words, n, nodes, block, rising, v, &mut out) {
+        Ok(count) => answers(rt, &out, count),
+        Err(k) => test_say::number_line(rt, b" refused", k.number()),
+    }
 }
 
 // Prints the children of every position before `end`, in both directions. The position of a close bit is refused.
 fn families(rt: &impl Print, words: &[u64], n: usize, nodes: &[i64], end: usize) -> io::Result<()> {
-    let mut v = 0;
-    while v < end {
+    for v in 0..end {
         children(rt, words, n, nodes, 8, true, v)?;
         children(rt, words, n, nodes, 8, false, v)?;
-        v += 1;
     }
     Ok(())
 }
@@ -183,7 +149,7 @@ fn listing(
 
 // Row T, `(()(()))`; a position after its end; and a block size that is refused.
 fn small(rt: &impl Print) -> io::Result<()> {
-    say::line(rt, b"(()(()))")?;
+    test_say::line(rt, b"(()(()))")?;
     outline(rt, 27, 0, 8, 4, 8)?;
     listing(rt, 27, 0, 8, 8, true, 8)?;
     listing(rt, 27, 0, 8, 12, true, 0)
@@ -191,25 +157,25 @@ fn small(rt: &impl Print) -> io::Result<()> {
 
 // One outline node: `level_rightmost(0)` is nothing, as in the Rust.
 fn pair(rt: &impl Print) -> io::Result<()> {
-    say::line(rt, b"()")?;
+    test_say::line(rt, b"()")?;
     outline(rt, 1, 0, 2, 2, 2)
 }
 
 // A tree of 40 bits in five blocks.
 fn middling(rt: &impl Print) -> io::Result<()> {
-    say::line(rt, b"((()(()))()((()))((())(()()))(()(()))())")?;
+    test_say::line(rt, b"((()(()))()((()))((())(()()))(()(()))())")?;
     outline(rt, 0x2362ce3a37, 0, 40, 5, 40)
 }
 
 // A root with 63 children, all of them outline leaves.
 fn wide(rt: &impl Print) -> io::Result<()> {
-    say::line(rt, b"wide")?;
+    test_say::line(rt, b"wide")?;
     outline(rt, 0xaaaaaaaaaaaaaaab, 0x2aaaaaaaaaaaaaaa, 128, 3, 1)
 }
 
 // A chain of 64 outline nodes, each the only child of the one before.
 fn deep(rt: &impl Print) -> io::Result<()> {
-    say::line(rt, b"deep")?;
+    test_say::line(rt, b"deep")?;
     outline(rt, 0xffffffffffffffff, 0, 128, 65, 0)?;
     listing(rt, 0xffffffffffffffff, 0, 128, 8, true, 62)?;
     listing(rt, 0xffffffffffffffff, 0, 128, 8, false, 63)
@@ -218,7 +184,7 @@ fn deep(rt: &impl Print) -> io::Result<()> {
 // The total of min-max node 4 is changed from 2 to 5. Then the reverse listing of the outline node 9 answers position 5, which is a close bit
 // (SCOPE, Listing children).
 fn foreign(rt: &impl Print) -> io::Result<()> {
-    say::line(rt, b"((((())))((()()()))) with foreign nodes")?;
+    test_say::line(rt, b"((((())))((()()()))) with foreign nodes")?;
     listing(rt, 0xae1f, 0, 20, 8, false, 9)?;
     let words = [0xae1fu64; 1];
     let mut nodes = [0i64; 18];

@@ -1,32 +1,47 @@
 // Runs the searches on cases a to g of SCOPE, Small rows, and on the empty row. Further cases: a backward answer at the first bit of a block, a
 // childless min-max node that a climb examines, nodes that are built for another block size, and each reason for refusal 8.
-use crate::say;
-use row::{Built, Found};
+use row::{Found, Refusal};
 use std::io;
 
 fn tell(rt: &impl Print, f: Found) -> io::Result<()> {
     match f {
-        Found::At(j) => say::number_line(rt, b"  at", j as u64),
-        Found::Nothing => say::line(rt, b"  nothing"),
-        Found::Refused(k) => say::number_line(rt, b"  refused", row::number(k)),
+        Ok(Some(j)) => test_say::number_line(rt, b"  at", j as u64),
+        Ok(None) => test_say::line(rt, b"  nothing"),
+        Err(k) => test_say::number_line(rt, b"  refused", k.number()),
     }
 }
 
-fn tell_built(rt: &impl Print, b: Built) -> io::Result<()> {
+fn tell_built(rt: &impl Print, b: Result<(), Refusal>) -> io::Result<()> {
     match b {
-        Built::Done => Ok(()),
-        Built::Refused(k) => say::number_line(rt, b"  build refused", row::number(k)),
+        Ok(()) => Ok(()),
+        Err(k) => test_say::number_line(rt, b"  build refused", k.number()),
     }
 }
 
-// Runs `fwd_search` with B = 8 on the first n bits of the word, at most 48. The nodes are built with B = `block`.
-fn forward(rt: &impl Print, word: u64, n: usize, block: usize, i: usize, r: i64) -> io::Result<()> {
+// Builds the nodes of the first n bits of the word, at most 48, with B = `block`, and prints what the search answers over them.
+fn over_built<F: FnOnce(&[u64], &[i64]) -> Found>(
+    rt: &impl Print,
+    word: u64,
+    n: usize,
+    block: usize,
+    search: F,
+) -> io::Result<()>
+    requires { F.IsAlwaysCallable search }
+{
     let words = [word; 1];
     let mut nodes = [0i64; 39];
     tell_built(rt, mmt_build::build(&words, n, &mut nodes, block))?;
-    tell(rt, bp::fwd_search(&words, n, &nodes, 8, i, r))
+    tell(rt, search(&words, &nodes))
 }
 
+// Runs `fwd_search` with B = 8.
+fn forward(rt: &impl Print, word: u64, n: usize, block: usize, i: usize, r: i64) -> io::Result<()> {
+    over_built(rt, word, n, block, |words, nodes| {
+        bp::fwd_search(words, n, nodes, 8, i, r)
+    })
+}
+
+// Runs `bwd_search` with B = 8.
 fn backward(
     rt: &impl Print,
     word: u64,
@@ -35,17 +50,16 @@ fn backward(
     i: usize,
     r: i64,
 ) -> io::Result<()> {
-    let words = [word; 1];
-    let mut nodes = [0i64; 39];
-    tell_built(rt, mmt_build::build(&words, n, &mut nodes, block))?;
-    tell(rt, bp::bwd_search(&words, n, &nodes, 8, i, r))
+    over_built(rt, word, n, block, |words, nodes| {
+        bp::bwd_search(words, n, nodes, 8, i, r)
+    })
 }
 
+// Runs `enclose` with B = 8.
 fn enclose(rt: &impl Print, word: u64, n: usize, block: usize, i: usize) -> io::Result<()> {
-    let words = [word; 1];
-    let mut nodes = [0i64; 39];
-    tell_built(rt, mmt_build::build(&words, n, &mut nodes, block))?;
-    tell(rt, bp::enclose(&words, n, &nodes, 8, i))
+    over_built(rt, word, n, block, |words, nodes| {
+        bp::enclose(words, n, nodes, 8, i)
+    })
 }
 
 // Row T, `(()(()))`.
@@ -53,7 +67,7 @@ const ROW_T: u64 = 27;
 
 // Cases a to d are forward, e and f backward, and g is an `enclose`.
 fn cases(rt: &impl Print) -> io::Result<()> {
-    say::line(rt, b"cases a to g")?;
+    test_say::line(rt, b"cases a to g")?;
     forward(rt, ROW_T, 8, 8, 0, -1)?;
     forward(rt, ROW_T, 8, 8, 0, 1)?;
     forward(rt, ROW_T, 8, 8, 2, 0)?;
@@ -74,7 +88,7 @@ fn ask_empty(rt: &impl Print, words: &[u64], nodes: &[i64]) -> io::Result<()> {
 }
 
 fn empty(rt: &impl Print) -> io::Result<()> {
-    say::line(rt, b"empty row")?;
+    test_say::line(rt, b"empty row")?;
     let words = [0u64; 1];
     let nodes = [0i64; 1];
     ask_empty(rt, &words[..0], &nodes[..0])
@@ -83,7 +97,7 @@ fn empty(rt: &impl Print) -> io::Result<()> {
 // Backward answers at the first bit of a block (SCOPE, Small rows): the block is found in the climb, as the right child in the descent, and as
 // the left child in the descent.
 fn first_bits(rt: &impl Print) -> io::Result<()> {
-    say::line(rt, b"first bits of blocks")?;
+    test_say::line(rt, b"first bits of blocks")?;
     backward(rt, 0b0101010111, 10, 8, 9, -3)?;
     backward(rt, 0b000101101100000000, 18, 8, 17, -1)?;
     backward(rt, 0b100000100111111111, 18, 8, 17, -3)
@@ -93,7 +107,7 @@ const SIX_BYTES: u64 = 0xff00ff00ff0f;
 
 // Six block leaves: min-max node 6 has no children, and a climb from the last two block leaves examines it as a right sibling.
 fn childless(rt: &impl Print) -> io::Result<()> {
-    say::line(rt, b"a childless sibling")?;
+    test_say::line(rt, b"a childless sibling")?;
     forward(rt, SIX_BYTES, 48, 8, 33, -9)?;
     forward(rt, SIX_BYTES, 48, 8, 3, 4)?;
     backward(rt, SIX_BYTES, 48, 8, 47, 1)
@@ -101,15 +115,15 @@ fn childless(rt: &impl Print) -> io::Result<()> {
 
 // Nodes that are built for blocks of 24 and searched with B = 8.
 fn other_blocks(rt: &impl Print) -> io::Result<()> {
-    say::line(rt, b"nodes of other blocks")?;
+    test_say::line(rt, b"nodes of other blocks")?;
     forward(rt, SIX_BYTES, 48, 24, 0, 3)?;
     forward(rt, SIX_BYTES, 48, 24, 10, -5)?;
     backward(rt, SIX_BYTES, 48, 24, 40, 1)
 }
 
 fn put(nodes: &mut [i64], at: usize, x: i64) {
-    if at < nodes.len() {
-        nodes[at] = x;
+    if let Some(entry) = nodes.get_mut(at) {
+        *entry = x;
     }
 }
 
@@ -125,7 +139,7 @@ fn foreign(rt: &impl Print, at: usize, x: i64, i: usize, r: i64) -> io::Result<(
 // Min-max node 8, the second block leaf, is the first one that a climb from position 0 examines. The cases are: each of its entries out of
 // range; its total at the bound, which is allowed; a least that its bits do not reach; and an r above n, for which no node is examined.
 fn foreign_in_climb(rt: &impl Print) -> io::Result<()> {
-    say::line(rt, b"foreign nodes in a climb")?;
+    test_say::line(rt, b"foreign nodes in a climb")?;
     foreign(rt, 24, 4294967297, 0, 9)?;
     foreign(rt, 25, -4294967297, 0, 9)?;
     foreign(rt, 26, 4294967297, 0, 9)?;
@@ -137,7 +151,7 @@ fn foreign_in_climb(rt: &impl Print) -> io::Result<()> {
 // The cases are: no child of min-max node 4 qualifies; the first child of node 4 has an entry out of range; the descent enters min-max node 6,
 // which has no child.
 fn foreign_in_descent(rt: &impl Print) -> io::Result<()> {
-    say::line(rt, b"foreign nodes in a descent")?;
+    test_say::line(rt, b"foreign nodes in a descent")?;
     foreign(rt, 14, 99, 0, 35)?;
     foreign(rt, 27, 4294967297, 0, 20)?;
     foreign(rt, 17, 7, 24, 15)

@@ -11,8 +11,7 @@
 // word (130 and 258 bits).
 #![tactic(auto)]
 
-use list_slice::Listed;
-use row::{Built, Found, Gate, Read, Refusal, Told};
+use row::{Found, Told};
 use std::io;
 
 fn say(rt: &impl Print, text: &[u8]) -> io::Result<()> {
@@ -20,30 +19,28 @@ fn say(rt: &impl Print, text: &[u8]) -> io::Result<()> {
 }
 
 fn say_number(rt: &impl Print, n: u64) -> io::Result<()> {
-    say(rt, b" ")?;
-    rt.print(n)
+    test_say::number(rt, b"", n)
 }
 
 // Prints a refusal. No question of this program is refused, so a refusal would differ from the file stdout.
-fn refused(rt: &impl Print, k: Refusal) -> io::Result<()> {
-    say(rt, b" refused")?;
-    say_number(rt, row::number(k))
+fn refused(rt: &impl Print, k: u64) -> io::Result<()> {
+    test_say::number(rt, b" refused", k)
 }
 
 fn found(rt: &impl Print, f: Found) -> io::Result<()> {
     match f {
-        Found::At(j) => say_number(rt, j as u64),
-        Found::Nothing => say(rt, b" -"),
-        Found::Refused(k) => refused(rt, k),
+        Ok(Some(j)) => say_number(rt, j as u64),
+        Ok(None) => say(rt, b" -"),
+        Err(k) => refused(rt, k.number()),
     }
 }
 
 fn told(rt: &impl Print, t: Told) -> io::Result<()> {
     match t {
-        Told::Yes => say(rt, b" y"),
-        Told::No => say(rt, b" n"),
-        Told::Nothing => say(rt, b" -"),
-        Told::Refused(k) => refused(rt, k),
+        Ok(Some(true)) => say(rt, b" y"),
+        Ok(Some(false)) => say(rt, b" n"),
+        Ok(None) => say(rt, b" -"),
+        Err(k) => refused(rt, k.number()),
     }
 }
 
@@ -97,27 +94,18 @@ fn beside(
     found(rt, bp::level_prev(words, n, nodes, block, v))
 }
 
-// Prints an answer as `list` writes it: a position, -1 for nothing, or -1 - k for refusal k. It compares the bits of x, as a u64, with their
-// complement: if x is negative, the complement is the smaller one and equals -1 - x.
+// Prints an answer as `list` writes it.
 fn number(rt: &impl Print, x: i64) -> io::Result<()> {
-    let bits = wire::to_word(x);
-    let less = u64::MAX - bits;
-    if bits < less {
-        say_number(rt, bits)
-    } else if less == 0 {
-        say(rt, b" -")
-    } else {
-        say(rt, b" refused")?;
-        say_number(rt, less)
+    match test_say::answer(x) {
+        Ok(Some(j)) => say_number(rt, j),
+        Ok(None) => say(rt, b" -"),
+        Err(k) => refused(rt, k),
     }
 }
 
 fn numbers(rt: &impl Print, out: &[i64], count: usize) -> io::Result<()> {
-    let end = row::earlier(count, out.len());
-    let mut i = 0;
-    while i < end {
-        number(rt, out[i])?;
-        i += 1;
+    for &x in out.iter().take(count) {
+        number(rt, x)?;
     }
     Ok(())
 }
@@ -134,8 +122,8 @@ fn children(
 ) -> io::Result<()> {
     let mut out = [0i64; 64];
     match list_slice::list(words, n, nodes, block, rising, v, &mut out) {
-        Listed::Count(c) => numbers(rt, &out, c),
-        Listed::Refused(k) => refused(rt, k),
+        Ok(count) => numbers(rt, &out, count),
+        Err(k) => refused(rt, k.number()),
     }
 }
 
@@ -170,17 +158,12 @@ fn position(
 ) -> io::Result<usize> {
     rt.print(i as u64)?;
     searches(rt, words, n, nodes, block, i)?;
-    match bp::admit_node(words, n, nodes, block, i) {
-        Gate::Pass => {
-            node(rt, words, n, nodes, block, i, row::earlier(before, i))?;
-            say(rt, b"\n")?;
-            Ok(i)
-        }
-        Gate::Refuse(_) => {
-            say(rt, b"\n")?;
-            Ok(before)
-        }
+    let handle = bp::admit_node(words, n, nodes, block, i).is_ok();
+    if handle {
+        node(rt, words, n, nodes, block, i, before.min(i))?;
     }
+    say(rt, b"\n")?;
+    Ok(if handle { i } else { before })
 }
 
 fn positions(
@@ -191,23 +174,13 @@ fn positions(
     block: usize,
 ) -> io::Result<()> {
     let mut before = n;
-    let mut i = 0;
-    while i < n {
+    for i in 0..n {
         before = position(rt, words, n, nodes, block, i, before)?;
-        i += 1;
     }
     Ok(())
 }
 
 // ---- a level
-
-fn is_nothing(f: Found) -> bool {
-    match f {
-        Found::At(_) => false,
-        Found::Nothing => true,
-        Found::Refused(_) => false,
-    }
-}
 
 // Prints the line of level k. Returns whether both ends of the level are nothing.
 fn level(
@@ -225,17 +198,15 @@ fn level(
     found(rt, first)?;
     found(rt, last)?;
     say(rt, b"\n")?;
-    Ok(is_nothing(first) && is_nothing(last))
+    Ok(first == Ok(None) && last == Ok(None))
 }
 
 // Prints the levels from 0 on, up to and with the first one whose ends are both nothing. A row of n bits has no level n.
 fn levels(rt: &impl Print, words: &[u64], n: usize, nodes: &[i64], block: usize) -> io::Result<()> {
-    let mut k = 0;
-    while k < n {
+    for k in 0..n {
         if level(rt, words, n, nodes, block, k as u64)? {
             return Ok(());
         }
-        k += 1;
     }
     Ok(())
 }
@@ -251,32 +222,29 @@ fn answers(rt: &impl Print, text: &[u8], words: &[u64], n: usize, block: usize) 
     say(rt, text)?;
     say(rt, b"\n")?;
     match mmt_build::build(words, n, &mut nodes, block) {
-        Built::Done => {
+        Ok(()) => {
             positions(rt, words, n, &nodes, block)?;
             levels(rt, words, n, &nodes, block)
         }
-        Built::Refused(k) => refused(rt, k),
+        Err(k) => refused(rt, k.number()),
     }
 }
 
 fn replay(rt: &impl Print, text: &[u8]) -> io::Result<()> {
     let mut words = [0u64; 8];
     match text::read_text(text, &mut words) {
-        Read::Bits(n) => {
+        Ok(n) => {
             answers(rt, text, &words, n, 8)?;
             answers(rt, text, &words, n, 64)
         }
-        Read::Refused(k) => refused(rt, k),
+        Err(k) => refused(rt, k.number()),
     }
 }
 
 fn rows(rt: &impl Print, bytes: &[u8]) -> io::Result<()> {
-    let mut at = 0;
-    while at < bytes.len() {
-        let rest = &bytes[at..];
-        let end = app_line::line_end(rest);
-        replay(rt, &rest[..end])?;
-        at += end + 1;
+    for line in bytes.split_inclusive(|&b| b == b'\n') {
+        let end = app_line::line_end(line);
+        replay(rt, &line[..end])?;
     }
     Ok(())
 }

@@ -4,7 +4,6 @@
 
 mod nodes;
 mod rows;
-mod say;
 
 use std::io;
 

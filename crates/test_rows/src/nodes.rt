@@ -1,28 +1,27 @@
 // Runs the build on small rows, with its refusals, and the as-built test on built, damaged and foreign buffers. Prints the number of inner
 // nodes for the numbers of block leaves in the table of SCOPE, The node buffer.
-use crate::say;
-use row::{Built, Told};
+use row::{Refusal, Told};
 use std::io;
 
-fn tell_built(rt: &impl Print, b: Built) -> io::Result<()> {
+fn tell_built(rt: &impl Print, b: Result<(), Refusal>) -> io::Result<()> {
     match b {
-        Built::Done => say::line(rt, b"  done"),
-        Built::Refused(k) => say::number_line(rt, b"  refused", row::number(k)),
+        Ok(()) => test_say::line(rt, b"  done"),
+        Err(k) => test_say::number_line(rt, b"  refused", k.number()),
     }
 }
 
 fn tell(rt: &impl Print, t: Told) -> io::Result<()> {
     match t {
-        Told::Yes => say::line(rt, b"  as built"),
-        Told::No => say::line(rt, b"  not as built"),
-        Told::Nothing => say::line(rt, b"  nothing"),
-        Told::Refused(k) => say::number_line(rt, b"  test refused", row::number(k)),
+        Ok(Some(true)) => test_say::line(rt, b"  as built"),
+        Ok(Some(false)) => test_say::line(rt, b"  not as built"),
+        Ok(None) => test_say::line(rt, b"  nothing"),
+        Err(k) => test_say::number_line(rt, b"  test refused", k.number()),
     }
 }
 
 fn say_row(rt: &impl Print, n: usize, block: usize) -> io::Result<()> {
-    say::number_line(rt, b"bits", n as u64)?;
-    say::number_line(rt, b"block", block as u64)
+    test_say::number_line(rt, b"bits", n as u64)?;
+    test_say::number_line(rt, b"block", block as u64)
 }
 
 fn build(
@@ -40,9 +39,9 @@ fn build(
 // Prints whether entry i of the buffer is x.
 fn number_is(rt: &impl Print, nodes: &[i64], i: usize, x: i64) -> io::Result<()> {
     if i < nodes.len() && nodes[i] == x {
-        say::line(rt, b"  number as given")
+        test_say::line(rt, b"  number as given")
     } else {
-        say::line(rt, b"  another number")
+        test_say::line(rt, b"  another number")
     }
 }
 
@@ -83,8 +82,8 @@ fn damage(
 fn inner(rt: &impl Print, leaves: usize) -> io::Result<()> {
     if leaves <= 9 {
         let l = mmt_layout::layout_of(8 * leaves, 8);
-        say::number_line(rt, b"leaves", l.leaves as u64)?;
-        say::number_line(rt, b"  inner", l.inner as u64)?;
+        test_say::number_line(rt, b"leaves", l.leaves as u64)?;
+        test_say::number_line(rt, b"  inner", l.inner as u64)?;
     }
     Ok(())
 }
@@ -146,11 +145,9 @@ fn build_none(rt: &impl Print, block: usize) -> io::Result<()> {
 }
 
 fn block_sizes(rt: &impl Print) -> io::Result<()> {
-    build_two_words(rt, 128, 65536)?;
-    build_two_words(rt, 128, 65544)?;
-    build_two_words(rt, 128, 12)?;
-    build_two_words(rt, 128, 0)?;
-    build_two_words(rt, 128, 64)?;
+    for block in [65536, 65544, 12, 0, 64] {
+        build_two_words(rt, 128, block)?;
+    }
     build_two_words(rt, 129, 64)?;
     build_two_words(rt, 4294967297, 64)?;
     build_none(rt, 64)?;
@@ -162,11 +159,8 @@ pub fn run(rt: &impl Print) -> io::Result<()> {
     forty_refused(rt)?;
     forty(rt)?;
     block_sizes(rt)?;
-    inner(rt, 1)?;
-    inner(rt, 2)?;
-    inner(rt, 3)?;
-    inner(rt, 4)?;
-    inner(rt, 5)?;
-    inner(rt, 8)?;
-    inner(rt, 9)
+    for leaves in [1, 2, 3, 4, 5, 8, 9] {
+        inner(rt, leaves)?;
+    }
+    Ok(())
 }

@@ -1,12 +1,10 @@
 // Prints the entries of the lookup table that SCOPE names. Runs the text reader, with its refusals and the words that it leaves, and the
 // one-tree test.
-use crate::say;
-use row::{Read, Told};
+use bits_lookup::Lookup;
 use std::io;
 
 fn entry(rt: &impl Print, b: u8) -> io::Result<()> {
-    let t = bits_lookup::table();
-    say::number_line(rt, b"entry", t[b as usize] as u64)
+    test_say::number_line(rt, b"entry", Lookup::new().entry(b) as u64)
 }
 
 // Reads a text into two words of 64 ones each. Prints the answer and the words afterwards.
@@ -16,36 +14,44 @@ fn read(rt: &impl Print, text: &[u8]) -> io::Result<()> {
 }
 
 fn read_into(rt: &impl Print, text: &[u8], words: &mut [u64]) -> io::Result<()> {
-    say::line(rt, text)?;
+    test_say::line(rt, text)?;
     match text::read_text(text, words) {
-        Read::Bits(n) => say::number_line(rt, b"  bits", n as u64),
-        Read::Refused(k) => say::number_line(rt, b"  refused", row::number(k)),
+        Ok(n) => test_say::number_line(rt, b"  bits", n as u64),
+        Err(k) => test_say::number_line(rt, b"  refused", k.number()),
     }?;
     say_words(rt, words)
 }
 
 fn say_word(rt: &impl Print, w: u64) -> io::Result<()> {
-    say::number_line(rt, b"  word", w)
+    test_say::number_line(rt, b"  word", w)
 }
 
 fn say_words(rt: &impl Print, words: &[u64]) -> io::Result<()> {
-    let mut i = 0;
-    while i < words.len() {
-        say_word(rt, words[i])?;
-        i += 1;
+    for w in words {
+        say_word(rt, *w)?;
     }
     Ok(())
 }
 
 fn tree(rt: &impl Print, word: u64, n: usize) -> io::Result<()> {
     let words = [word; 1];
-    say::number_line(rt, b"bits", n as u64)?;
+    test_say::number_line(rt, b"bits", n as u64)?;
     match one_tree::one_tree(&words, n) {
-        Told::Yes => say::line(rt, b"  one tree"),
-        Told::No => say::line(rt, b"  not one tree"),
-        Told::Nothing => say::line(rt, b"  nothing"),
-        Told::Refused(k) => say::number_line(rt, b"  refused", row::number(k)),
+        Ok(Some(true)) => test_say::line(rt, b"  one tree"),
+        Ok(Some(false)) => test_say::line(rt, b"  not one tree"),
+        Ok(None) => test_say::line(rt, b"  nothing"),
+        Err(k) => test_say::number_line(rt, b"  refused", k.number()),
     }
+}
+
+fn trees(rt: &impl Print) -> io::Result<()> {
+    for (word, n) in [(27, 8), (1, 2), (1, 1), (1, 0), (5, 4), (9, 4), (3, 3)] {
+        tree(rt, word, n)?;
+    }
+    tree(rt, u64::MAX, 64)?;
+    tree(rt, u64::MAX, 65)?;
+    tree(rt, 0xffffffff, 64)?;
+    tree(rt, 1, 4294967297)
 }
 
 // Reads texts of 64, 65 and 129 parentheses: a full word, one bit more than a word, and one bit more than the two words have.
@@ -58,9 +64,9 @@ fn long_texts(rt: &impl Print) -> io::Result<()> {
 }
 
 pub fn run(rt: &impl Print) -> io::Result<()> {
-    entry(rt, 0)?;
-    entry(rt, 27)?;
-    entry(rt, 255)?;
+    for b in [0, 27, 255] {
+        entry(rt, b)?;
+    }
     read(rt, b"(()(()))")?;
     read(rt, b"")?;
     read(rt, b")")?;
@@ -72,15 +78,5 @@ pub fn run(rt: &impl Print) -> io::Result<()> {
     read_into(rt, b"(*", &mut none[..0])?;
     read_into(rt, b"", &mut none[..0])?;
     long_texts(rt)?;
-    tree(rt, 27, 8)?;
-    tree(rt, 1, 2)?;
-    tree(rt, 1, 1)?;
-    tree(rt, 1, 0)?;
-    tree(rt, 5, 4)?;
-    tree(rt, 9, 4)?;
-    tree(rt, 3, 3)?;
-    tree(rt, u64::MAX, 64)?;
-    tree(rt, u64::MAX, 65)?;
-    tree(rt, 0xffffffff, 64)?;
-    tree(rt, 1, 4294967297)
+    trees(rt)
 }

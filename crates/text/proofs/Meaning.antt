@@ -12,10 +12,9 @@ use native.Mathlib.Omega.{arith}
 use lib.ListN.{length, get_or, drop, length-append, length-drop, get_or-append}
 use lib.Seq.{get_or-append-add, get_or-drop}
 use Rattle.row.specs.declared.refusal.Refusal.{Refusal}
-use Rattle.row.specs.declared.gate.Gate.{Gate}
-use Rattle.row.specs.declared.gate.Gate.TheVariants.{Pass, Refuse}
+use Rattle.row.specs.Gates.{Gate, words_for}
+use Rattle.std.specs.Prelude.{Ok, Err}
 use Rattle.row.specs.Bits.{digit, bit_at}
-use Rattle.row.specs.Gates.{words_for}
 use Rattle.text.specs.Text.{text_bit, word_of, words_of, text_gate, text_words}
 use Rattle.text.proofs.Packed.{packed_digit}
 use Rattle.text.proofs.Text.{bit_lt, bit_past, words_length, words_at, text_fits, words_passed, words_refused}
@@ -34,7 +33,7 @@ word_past s ws m k h =
 
 module _ (s ws : List ℕ) where
   -- A refused text leaves every word unchanged.
-  pub refusal_keeps : (k : Refusal) → text_gate s (length ws) ≡ Refuse k → text_words s ws ≡ ws
+  pub refusal_keeps : (k : Refusal) → text_gate s (length ws) ≡ Err k → text_words s ws ≡ ws
   refusal_keeps k g = sym (words_refused s ws k g)
 
   -- The number of words is unchanged.
@@ -42,20 +41,20 @@ module _ (s ws : List ℕ) where
   length_stays = by (text_gate s (length ws)) refl
     where
       by : (g : Gate) → text_gate s (length ws) ≡ g → length (text_words s ws) ≡ length ws
-      by Pass g =
+      by (Ok tt) g =
           let f = text_fits s (length ws) g in
           rw (← words_passed s ws g, length-append, words_length, length-drop) (omega arith)
-      by (Refuse k) g = ap length (refusal_keeps k g)
+      by (Err k) g = ap length (refusal_keeps k g)
 
   -- Words after those that the bits of the text need are unchanged.
   pub past_stays : (k : ℕ) → words_for (length s) ≤ k → get_or (text_words s ws) k 0 ≡ get_or ws k 0
   past_stays k h = by (text_gate s (length ws)) refl
     where
       by : (g : Gate) → text_gate s (length ws) ≡ g → get_or (text_words s ws) k 0 ≡ get_or ws k 0
-      by Pass g = rw (← words_passed s ws g) (word_past s ws (words_for (length s)) k h)
-      by (Refuse r) g = ap (λ l. get_or l k 0) (refusal_keeps r g)
+      by (Ok tt) g = rw (← words_passed s ws g) (word_past s ws (words_for (length s)) k h)
+      by (Err r) g = ap (λ l. get_or l k 0) (refusal_keeps r g)
 
-  module _ (g : text_gate s (length ws) ≡ Pass) where
+  module _ (g : text_gate s (length ws) ≡ (Ok tt)) where
     -- Every bit of the written words is the bit of the text with the same index.
     written : (i : ℕ) → i < 64 * words_for (length s) → bit_at (text_words s ws) i ≡ text_bit s i
     written i h =

@@ -1,9 +1,5 @@
 -- Laws of the tests, the bits and the words of the text reader.
---   all_stop: if byte i is no parenthesis, the test of the bytes from i on says false
---   all_step: if byte i is a parenthesis, the test from i on says what the test from i + 1 on says
---   all_done: past the end of the text the test says true
---   bit_open: a byte `(` gives the bit 1
---   bit_close, bit_past: any other byte gives the bit 0, and so does an index past the end
+--   bit_past: an index past the end gives the bit 0
 --   bit_lt: a bit is below 2
 --   words_length: `words_of s m` has m words
 --   words_at: word k of `words_of s m` is `word_of s k`
@@ -22,37 +18,19 @@ use Prim.Native.Nat.{ℕ, zero, suc, ◌+◌, ◌≤◌, ◌<◌}
 use native.Mathlib.Nat.{eq-or-lt_of_le, le_of_suc-le-suc}
 use native.Mathlib.Numerals.{add-one}
 use native.Mathlib.Omega.{arith}
-use borrow.Author.Tests.{le-leb, lt-leb, leb-false, eq-eqb, ne_eqb, leb-true}
+use borrow.Author.Tests.{le-leb, lt-leb, leb-false, leb-true}
 use lib.Dec.{leb, eqb}
-use lib.ListN.{length, get_or, drop, set, length-append, drop_of_length-le, get_or-eq_default, get_or-append}
+use lib.ListN.{length, get_or, drop, set, length-append, get_or-eq_default, get_or-append}
 use lib.Seq.{drop-cons, set_at, get_or_at}
 use Rattle.row.specs.Limits.{max_bits}
 use Rattle.row.specs.declared.refusal.Refusal.{Refusal}
 use Rattle.row.specs.declared.refusal.Refusal.TheVariants.{TooManyBits, NotAParenthesis}
-use Rattle.row.specs.declared.gate.Gate.TheVariants.{Pass, Refuse}
+use Rattle.std.specs.Prelude.{Ok, Err}
 use Rattle.row.specs.Gates.{words_for, row_gate}
 use Rattle.row.proofs.Gates.{row_fits}
-use Rattle.text.specs.Text.{is_parenthesis, all_parentheses, text_bit, word_of, words_of, text_gate, text_words}
+use Rattle.text.specs.Text.{all_parentheses, text_bit, word_of, words_of, text_gate, text_words}
 
 module _ (s : List ℕ) (i : ℕ) where
-  pub all_stop : i < length s → is_parenthesis (get_or s i 0) ≡ false → false ≡ all_parentheses (drop i s)
-  unfolding all_parentheses
-  all_stop h e = rw (drop-cons s i 0) (simp e)
-
-  pub all_step : i < length s → is_parenthesis (get_or s i 0) ≡ true → all_parentheses (drop (i + 1) s) ≡ all_parentheses (drop i s)
-  unfolding all_parentheses
-  all_step h e = rw (add-one, drop-cons s i 0) (simp e)
-
-  pub all_done : length s ≤ i → true ≡ all_parentheses (drop i s)
-  unfolding all_parentheses
-  all_done h = rw (drop_of_length-le s)
-
-  pub bit_open : get_or s i 0 ≡ 40 → 1 ≡ text_bit s i
-  bit_open e = simp (eq-eqb (get_or s i 0) 40 e)
-
-  pub bit_close : (get_or s i 0 ≡ 40 → ⊥) → 0 ≡ text_bit s i
-  bit_close e = simp (ne_eqb (get_or s i 0) 40 e)
-
   pub bit_past : length s ≤ i → 0 ≡ text_bit s i
   bit_past h = rw (get_or-eq_default s 0)
 
@@ -82,11 +60,11 @@ module _ (s : List ℕ) where
   words_step ws k h = let l = words_length k in rw (add-one, drop-cons ws k 0, append_assoc, set_at)
 
 module _ (s : List ℕ) (w : ℕ) where
-  pub text_many : max_bits < length s → Refuse TooManyBits ≡ text_gate s w
+  pub text_many : max_bits < length s → Err TooManyBits ≡ text_gate s w
   unfolding text_gate
   text_many h = simp (lt-leb (length s) max_bits h)
 
-  pub text_other : length s ≤ max_bits → all_parentheses s ≡ false → Refuse NotAParenthesis ≡ text_gate s w
+  pub text_other : length s ≤ max_bits → all_parentheses s ≡ false → Err NotAParenthesis ≡ text_gate s w
   unfolding text_gate
   text_other h a = simp (le-leb (length s) max_bits h, a)
 
@@ -94,7 +72,7 @@ module _ (s : List ℕ) (w : ℕ) where
   unfolding text_gate
   text_row h a = simp (le-leb (length s) max_bits h, a)
 
-  pub text_fits : text_gate s w ≡ Pass → (length s ≤ max_bits) × (words_for (length s) ≤ w)
+  pub text_fits : text_gate s w ≡ (Ok tt) → (length s ≤ max_bits) × (words_for (length s) ≤ w)
   text_fits g = by (leb (length s) max_bits) refl (all_parentheses s) refl
     where
       by : (a : Bool) → leb (length s) max_bits ≡ a → (b : Bool) → all_parentheses s ≡ b → (length s ≤ max_bits) × (words_for (length s) ≤ w)
@@ -103,10 +81,10 @@ module _ (s : List ℕ) (w : ℕ) where
       by false p b q = let z : ◌≡◌ {A = ℕ} 0 1 = cc (text_many (leb-false (length s) max_bits p)) in absurd (omega arith)
 
 module _ (s ws : List ℕ) where
-  pub words_passed : text_gate s (length ws) ≡ Pass → words_of s (words_for (length s)) ++ drop (words_for (length s)) ws ≡ text_words s ws
+  pub words_passed : text_gate s (length ws) ≡ (Ok tt) → words_of s (words_for (length s)) ++ drop (words_for (length s)) ws ≡ text_words s ws
   unfolding text_words
   words_passed g = simp g
 
-  pub words_refused : (k : Refusal) → text_gate s (length ws) ≡ Refuse k → ws ≡ text_words s ws
+  pub words_refused : (k : Refusal) → text_gate s (length ws) ≡ Err k → ws ≡ text_words s ws
   unfolding text_words
   words_refused k g = simp g

@@ -1,12 +1,11 @@
 -- The text reader by definition: what it refuses, and what the words contain afterwards (SCOPE, The text reader).
 -- Assumes nothing.
-use Rattle.std.specs.Prelude.{Bool, true, ◌&&◌, ◌||◌, cond, List, [], ◌∷◌, ◌++◌, ℕ, zero, suc, ◌+◌, ◌*◌, leb, eqb, length, get_or, drop}
+use Rattle.std.specs.Prelude.{Bool, ◌||◌, cond, List, [], ◌∷◌, ◌++◌, ℕ, zero, suc, ◌+◌, ◌*◌, leb, eqb, length, get_or, drop, Err}
+use Rattle.std.specs.List.{list_all}
 use Rattle.row.specs.Limits.{max_bits}
 use Rattle.row.specs.declared.refusal.Refusal.TheVariants.{TooManyBits, NotAParenthesis}
-use Rattle.row.specs.declared.gate.Gate.{Gate}
-use Rattle.row.specs.declared.gate.Gate.TheVariants.{Refuse}
+use Rattle.row.specs.Gates.{Gate, words_for, row_gate, through, kept}
 use Rattle.row.specs.Answer.{Answer, at}
-use Rattle.row.specs.Gates.{words_for, row_gate, through, kept}
 
 -- A parenthesis is the byte 40, which is `(`, or the byte 41, which is `)`.
 abbrev pub is_parenthesis : ℕ → Bool
@@ -14,8 +13,7 @@ is_parenthesis b = eqb b 40 || eqb b 41
 
 -- Tests whether every byte of a text is a parenthesis.
 unfoldable pub all_parentheses : List ℕ → Bool
-all_parentheses [] = true
-all_parentheses (b ∷ s) = is_parenthesis b && all_parentheses s
+all_parentheses s = list_all is_parenthesis s
 
 -- Bit i of a text is 1 if byte i is `(`, otherwise 0. It is also 0 past the end of the text.
 abbrev pub text_bit : List ℕ → ℕ → ℕ
@@ -37,7 +35,7 @@ words_of s (suc m) = words_of s m ++ (word_of s m ∷ [])
 
 -- The gate of the reader: refusal 2, then 6, then 3, for a text that is to go into w words.
 unfoldable pub text_gate : List ℕ → ℕ → Gate
-text_gate s w = cond (leb (length s) max_bits) (cond (all_parentheses s) (row_gate w (length s)) (Refuse NotAParenthesis)) (Refuse TooManyBits)
+text_gate s w = cond (leb (length s) max_bits) (cond (all_parentheses s) (row_gate w (length s)) (Err NotAParenthesis)) (Err TooManyBits)
 
 -- The answer of the reader: the bit count, which is the number of bytes, or the refusal of the gate.
 abbrev pub read_answer : List ℕ → List ℕ → Answer

@@ -11,37 +11,29 @@ ghost use Rattle.row.specs.Writes.{Writes};
 ghost use Rattle.row.specs.Answer.{paper_read};
 ghost use Rattle.text.specs.Text.{is_parenthesis, all_parentheses, text_bit, word_of, words_of, text_gate, read_answer, text_words};
 
-use row::{Gate, Read, Refusal};
+use row::Refusal;
 
 fn is_parenthesis(b: u8) -> bool
     ensures { result ≡ is_parenthesis b }
 {
-    b == b'(' || b == b')'
+    matches!(b, b'(' | b')')
 }
 
+#[tactic(auto, unfolding(crate::specs::Text::all_parentheses))]
 fn all_parentheses(text: &[u8]) -> bool
     ensures { result ≡ all_parentheses text.now }
 {
-    let mut i = 0;
-    while i < text.len() {
-        if !is_parenthesis(text[i]) {
-            return false;
-        }
-        i += 1;
-    }
-    true
+    text.iter().all(|b| is_parenthesis(*b))
 }
 
 // Returns bit i of the text: 1 if byte i is `(`, otherwise 0. It is also 0 past the end of the text.
 fn text_bit(text: &[u8], i: usize) -> u64
     ensures { result ≡ text_bit text.now i }
 {
-    if i < text.len() {
-        if text[i] == b'(' {
-            return 1;
-        }
+    match text.get(i) {
+        Some(b'(') => 1,
+        _ => 0,
     }
-    0
 }
 
 // Returns word k of the text: bits 64k to 64k + 63. It goes from the last bit to the first, so each step doubles and adds one bit.
@@ -49,52 +41,44 @@ fn word_of(text: &[u8], k: usize) -> u64
     requires { k ≤ max_words }
     ensures { result ≡ word_of text.now k }
 {
-    let mut w: u64 = 0;
-    let mut j: usize = 64;
-    while 0 < j {
-        j -= 1;
+    let mut w = 0;
+    for j in (0..64).rev() {
         w = text_bit(text, 64 * k + j) + 2 * w;
     }
     w
 }
 
-// Writes the first `need` words of the text. The words after them are unchanged.
-fn write_words(text: &[u8], words: &mut [u64], need: usize)
-    requires { (need ≤ max_words) × (need ≤ length words.old) }
-    ensures { words.new ≡ words_of text.now need ++ drop need words.old }
+// Writes the words of the text, as many as `words` has room for.
+fn write_words(text: &[u8], words: &mut [u64])
+    requires { length words.old ≤ max_words }
+    ensures { words.new ≡ words_of text.now (length words.old) }
 {
-    let mut k: usize = 0;
-    while k < need {
-        words[k] = word_of(text, k);
-        k += 1;
+    for (k, word) in words.iter_mut().enumerate() {
+        *word = word_of(text, k);
     }
 }
 
 // Tests a text that is to go into `words` words: refusal 2, then 6, then 3.
-fn admit_text(text: &[u8], words: usize) -> Gate
+fn admit_text(text: &[u8], words: usize) -> Result<(), Refusal>
     ensures { result ≡ text_gate text.now words }
 {
     let n = text.len();
     if row::MAX_BITS < n {
-        return Gate::Refuse(Refusal::TooManyBits);
+        return Err(Refusal::TooManyBits);
     }
     if !all_parentheses(text) {
-        return Gate::Refuse(Refusal::NotAParenthesis);
+        return Err(Refusal::NotAParenthesis);
     }
     row::admit_row(words, n)
 }
 
 // Reads a text into words. Returns the bit count, or refusal 2, 6 or 3.
-pub fn read_text(text: &[u8], words: &mut [u64]) -> Read
+pub fn read_text(text: &[u8], words: &mut [u64]) -> Result<usize, Refusal>
     ensures { Writes (paper_read result) (read_answer text.now words.old)
         words.new (text_words text.now words.old) }
 {
-    match admit_text(text, words.len()) {
-        Gate::Refuse(k) => Read::Refused(k),
-        Gate::Pass => {
-            let n = text.len();
-            write_words(text, words, row::words_for(n));
-            Read::Bits(n)
-        }
-    }
+    admit_text(text, words.len())?;
+    let n = text.len();
+    write_words(text, &mut words[..row::words_for(n)]);
+    Ok(n)
 }

@@ -1,40 +1,47 @@
 -- Laws of the climb as the code makes it: without the count of examined nodes, and by the answer of the sibling that is asked.
 --   climb_count: the count does not change the result
 --   climbed_root: at the root, the climb leaves the tree
---   by_beside: the result of the climb for each answer of the sibling
 --   climbed_up: at a node without a sibling beyond it, the climb goes on at the parent
---   climbed_asked: at any other node `by_beside` is the result
---   rises_start, rises_on: `Rises` holds at the start, and after each node without a sibling beyond it
---   part: for each answer of the sibling, `by_beside` is the result of the whole climb
---   part_room: after a passed sibling, the remainder has room for the climb from the parent
+--   climbed_asked: at any other node, the answer of the sibling decides the result
+--   is_last, not_last: a node has no sibling beyond it exactly if it is the farther child of its parent
+--   rises_on: `Rises` holds after each node without a sibling beyond it
+--   rises_out, beside: where the way up ends, at the root or at a node with a sibling beyond it
+--   part_on: after a passed sibling, the climb goes on to the same result, from a smaller index and with room there
 --   Turned, turned: the node that a climb turns to exists and has its height, and the remainder has room for a descent
 -- Assumes nothing.
 use mathlib.Core.Path.{◌≡◌, refl, sym, ap, ◌∙◌}
 use mathlib.Core.Bool.{true, false}
 use mathlib.Core.List.{List}
-use Prim.Native.Nat.{ℕ, zero, suc, ◌+◌, ◌-◌, ◌*◌, ◌/◌, ◌<◌}
+use Prim.Native.Nat.{ℕ, zero, suc, ◌+◌, ◌-◌, ◌*◌, ◌/◌, ◌%◌, ◌<◌}
 use native.Mathlib.Omega.{arith}
-use borrow.Author.Tests.{eqb-false, leb-false}
+use borrow.Author.Tests.{eq-eqb, ne_eqb, eqb-false, leb-false}
 use lib.Dec.{leb, eqb}
 use lib.IntN.{ℤ}
-use Rattle.row.specs.Way.{Way}
-use Rattle.bits_stretch.specs.Scan.{passed}
+use Rattle.std.specs.Prelude.{Option, Some, None, Result, Ok, Err}
+use mir.Syntax.{w64}
+use mir.Val.{to_z, of_z}
+use mir.ValLaws.{to_z-of_z}
+use Rattle.std.specs.declared.ops.ControlFlow.TheVariants.{Continue}
+use Rattle.row.specs.Way.{Way, forward, backward}
+use Rattle.row.specs.declared.refusal.Refusal.{Refusal}
+use Rattle.bits_stretch.specs.Scan.{order, passed}
 use Rattle.mmt_node.specs.Nodes.{node_at}
-use Rattle.mmt_layout.proofs.Places.{Place, place_up}
-use Rattle.walk_spec.specs.Walk.{fits, holds_on, Climb, last_sibling, sibling_beyond, climb}
-use Rattle.walk_spec.proofs.Ways.{side_place, chosen, alike}
+use Rattle.mmt_layout.proofs.Places.{Place as At, place_up}
+use Rattle.bits_stretch.specs.Summary.{holds_on}
+use Rattle.walk_spec.specs.Walk.{fits, Climb, last_sibling, sibling_beyond, farther, climb}
+use Rattle.walk_spec.proofs.Ways.{kin, side_place, chosen, alike}
 use Rattle.walk_spec.proofs.Steps.{climb_root, climb_up, climb_beside}
-use Rattle.walk_examine.specs.declared.ask.Asked.{Asked}
-use Rattle.walk_examine.specs.declared.ask.Asked.TheVariants.{Here, Past, Absent, Misfit as MisfitAsked}
+use Rattle.walk_examine.specs.declared.node.Asked.{Asked}
+use Rattle.walk_examine.specs.declared.node.Asked.TheVariants.{Past}
 use Rattle.walk_examine.specs.Asked.{asked_of, Room}
-use Rattle.walk_examine.proofs.Asks.{passed_size, says, past_size}
-use Rattle.walk_climb.specs.declared.path.Climbed.{Climbed}
-use Rattle.walk_climb.specs.declared.path.Climbed.TheVariants.{Turn, Out, Misfit as MisfitClimbed}
-use Rattle.walk_climb.specs.Climbed.{climbed_of, Rises, Above}
+use Rattle.walk_examine.proofs.Asks.{passed_size, room_fits, says, past_size}
+use Rattle.walk_climb.specs.declared.Place.{Place}
+use Rattle.walk_climb.specs.declared.Sibling.{Sibling}
+use Rattle.walk_climb.specs.Climbed.{climbed_of, step_of, climbed_on, Rises, Beside, Part}
 
 module _ (w : Way) (m : ℕ) (s : List ℤ) where
   -- ---- the count
-  pub climb_count : (f h k : ℕ) (r : ℤ) (c d : ℕ) → climbed_of (climb w m s f h k r c) ≡ climbed_of (climb w m s f h k r d)
+  climb_count : (f h k : ℕ) (r : ℤ) (c d : ℕ) → climbed_of (climb w m s f h k r c) ≡ climbed_of (climb w m s f h k r d)
   unfolding climb
   climb_count zero h k r c d = refl
   climb_count (suc f) h k r c d =
@@ -48,60 +55,88 @@ module _ (w : Way) (m : ℕ) (s : List ℤ) where
 
   -- ---- one step up
   module _ (h k : ℕ) (r : ℤ) where
-    pub climbed_root : k ≡ 0 → Out ≡ climbed_of (climb w m s k h k r 0)
+    climbed_root : k ≡ 0 → Ok None ≡ climbed_of (climb w m s k h k r 0)
     climbed_root z = ap climbed_of (climb_root w m s h k r 0 z)
 
-    -- the result of the climb for each answer of the sibling
-    abbrev pub by_beside : Asked → Climbed
-    by_beside Here = Turn (sibling_beyond w k) h r
-    by_beside (Past q) = climbed_of (climb w m s ((k - 1) / 2) (h + 1) ((k - 1) / 2) q 0)
-    by_beside Absent = Out
-    by_beside MisfitAsked = MisfitClimbed
-
     module _ (z : k ≡ 0 → ⊥) where
-      pub climbed_up : last_sibling w k ≡ true → climbed_of (climb w m s ((k - 1) / 2) (h + 1) ((k - 1) / 2) r 0) ≡ climbed_of (climb w m s k h k r 0)
+      climbed_up : last_sibling w k ≡ true → climbed_of (climb w m s ((k - 1) / 2) (h + 1) ((k - 1) / 2) r 0) ≡ climbed_of (climb w m s k h k r 0)
       climbed_up e = ap climbed_of (climb_up w m s h k r 0 z e)
 
-      pub climbed_asked : last_sibling w k ≡ false → {b : Asked} → asked_of w m s (sibling_beyond w k) r ≡ b → by_beside b ≡ climbed_of (climb w m s k h k r 0)
+      -- the sibling beyond node k
+      abbrev sibling : Sibling
+      sibling = record { node = sibling_beyond w k; parent = (k - 1) / 2; height = h }
+
+      climbed_asked : last_sibling w k ≡ false → climbed_on w m s (step_of sibling r (asked_of w m s sibling.node r)) ≡ climbed_of (climb w m s k h k r 0)
       unfolding asked_of
-      climbed_asked e f =
+      climbed_asked e =
           let x = node_at s (sibling_beyond w k) in
           let j = (k - 1) / 2 in
-          rw (sym f, ← climb_beside w m s h k r 0 z e)
-          (alike by_beside climbed_of (leb m (sibling_beyond w k)) refl
-          (alike by_beside climbed_of (fits x)
-          (alike by_beside climbed_of (holds_on w x r) refl (climb_count j (h + 1) j (passed w r x.total) 0 1)) refl))
+          let f : Result Asked Refusal → Result (Option Place) Refusal = (λ a. climbed_on w m s (step_of sibling r a)) in
+          rw (← climb_beside w m s h k r 0 z e)
+          (alike f climbed_of (leb m (sibling_beyond w k)) refl
+          (alike f climbed_of (fits x)
+          (alike f climbed_of (holds_on w x r) refl (climb_count j (h + 1) j (passed w r x.total) 0 1)) refl))
 
 -- ---- up past nodes without a sibling beyond them
+-- of two siblings, the farther one has none beyond it
+is_last : (w : Way) (k : ℕ) → (k ≡ 0 → ⊥) → k ≡ farther w ((k - 1) / 2) → last_sibling w k ≡ true
+is_last forward k z e = eq-eqb (k % 2) 0 (omega arith)
+is_last backward k z e = eq-eqb (k % 2) 1 (omega arith)
+
+not_last : (w : Way) (k : ℕ) → (k ≡ 0 → ⊥) → (k ≡ farther w ((k - 1) / 2) → ⊥) → last_sibling w k ≡ false
+not_last forward k z e = ne_eqb (k % 2) 0 (λ d. e (omega arith))
+not_last backward k z e = ne_eqb (k % 2) 1 (λ d. e (omega arith))
+
+-- the code puts the two siblings in the order in which they are met
+second : (w : Way) (p : ℕ) → (order w (2 * p + 1) (2 * p + 2)).1 ≡ farther w p
+second forward p = refl
+second backward p = refl
+
 module _ (w : Way) (k h : ℕ) where
-  pub rises_start : Rises w k h k h
-  rises_start = record { under = omega arith; room = omega arith; same = λ m s r. refl }
+  module _ (j g : ℕ) (p : Rises w k h j g) where
+    pub rises_out : j ≡ 0 → (m : ℕ) (s : List ℤ) (r : ℤ) → Ok None ≡ climbed_of (climb w m s k h k r 0)
+    rises_out z m s r = climbed_root w m s g j r z ∙ p.same m s r
 
-  pub rises_on : (j g : ℕ) → Rises w k h j g → (j ≡ 0 → ⊥) → last_sibling w j ≡ true → Rises w k h ((j - 1) / 2) (g + 1)
-  rises_on j g p z e = record {
-    under = omega (arith, p.under);
-    room = omega (arith, p.room);
-    same = λ m s r. climbed_up w m s g j r z e ∙ p.same m s r;
-  }
+    module _ (z : j ≡ 0 → ⊥) {n : ℕ × ℕ} (d : n ≡ order w (2 * ((j - 1) / 2) + 1) (2 * ((j - 1) / 2) + 2)) where
+      far_is : n.1 ≡ farther w ((j - 1) / 2)
+      far_is = rw d (second w ((j - 1) / 2))
 
--- ---- the sibling beyond node j is asked, where node j at height g is above node k at height h
-module _ (w : Way) (m : ℕ) (s : List ℤ) (k h : ℕ) (r : ℤ) {j g : ℕ} (y : Above w k h j g) (z : j ≡ 0 → ⊥) where
-  pub part : {b : Asked} → asked_of w m s (sibling_beyond w j) r ≡ b → by_beside w m s g j r b ≡ climbed_of (climb w m s k h k r 0)
-  part e = climbed_asked w m s g j r z (y.sibling z) e ∙ y.rises.same m s r
+      pub rises_on : j ≡ n.1 → Rises w k h ((j - 1) / 2) (g + 1)
+      rises_on e = record {
+        under = omega (arith, p.under);
+        room = omega (arith, p.room);
+        same = λ m s r. climbed_up w m s g j r z (is_last w j z (e ∙ far_is)) ∙ p.same m s r;
+      }
 
-  pub part_room : {q : ℤ} → asked_of w m s (sibling_beyond w j) r ≡ Past q → Room (h + 2 * k) r → Room (g + 1 + 2 * ((j - 1) / 2)) q
-  part_room {q} e o = omega (arith, y.rises.room, past_size w m s (sibling_beyond w j) r q (says w m s (sibling_beyond w j) r refl e))
+      pub beside : (j ≡ n.1 → ⊥) → Beside w k h (record { node = n.1; parent = (j - 1) / 2; height = g })
+      beside e =
+          let l = not_last w j z (λ y. e (y ∙ sym far_is)) in
+          record {
+            under = omega (arith, p.under);
+            room = omega (arith, p.room);
+            same = λ m s r. rw (far_is ∙ sym (kin w j z l).1) (climbed_asked w m s g j r z l ∙ p.same m s r);
+          }
+
+-- ---- the sibling b has been passed, with the remainder q after it
+module _ (w : Way) (m : ℕ) (s : List ℤ) (k h : ℕ) (r : ℤ) (b : Sibling) (y : Beside w k h b) (o : Room (h + 2 * k) r)
+    (q : ℤ) (e : asked_of w m s b.node r ≡ Ok (Past q)) where
+  past_room : Room (b.height + 1 + 2 * b.parent) q
+  past_room = omega (arith, y.room, past_size w m s b.node r q (says w m s b.node r e))
+
+  -- the machine reads q back from 64 bits
+  pub part_on : Part w m s k h r (Ok (Continue (record { node = b.parent; height = b.height + 1; remainder = to_z w64 (of_z w64 q) })))
+  part_on = rw (to_z-of_z w64 q (room_fits (b.height + 1 + 2 * b.parent) q past_room)) (record { result = rw e at (y.same m s r); higher = (y.under, past_room) })
 
 -- ---- the node that a climb turns to; t is the height of the root
 
 -- the node exists and has height g, and the remainder has room for a descent
-abbrev pub Turned : ℕ → ℕ → Climbed → Type 0
-Turned m t (Turn j g q) = (j < m) × Place t g j × Room g q
-Turned m t Out = Unit {0}
-Turned m t MisfitClimbed = Unit {0}
+abbrev pub Turned : ℕ → ℕ → Result (Option Place) Refusal → Type 0
+Turned m t (Ok (Some p)) = (p.node < m) × At t p.height p.node × Room p.height p.remainder
+Turned m t (Ok None) = Unit {0}
+Turned m t (Err e) = Unit {0}
 
 module _ (w : Way) (m : ℕ) (s : List ℤ) (t : ℕ) where
-  pub turned : (f h k : ℕ) (r : ℤ) (c : ℕ) → k < m → Place t h k → Room (h + 2 * k) r → Turned m t (climbed_of (climb w m s f h k r c))
+  pub turned : (f h k : ℕ) (r : ℤ) (c : ℕ) → k < m → At t h k → Room (h + 2 * k) r → Turned m t (climbed_of (climb w m s f h k r c))
   unfolding climb
   turned zero h k r c l p o = tt
   turned (suc f) h k r c l p o =

@@ -1,83 +1,71 @@
 -- Laws of the answers of the walk's parts, one per branch, and of the nodes on the way.
 --   Laid, laid_out: the layout, and that block leaf b, where the climb starts, exists
---   leaf_hit, leaf_left: the answer after a hit in the target block, and without one
---   start_hit, start_left: the same for the start block
---   beyond_out, beyond_misfit: the answer if the climb leaves the tree, and if it is refused
 --   beyond_lost, beyond_leaf: the answer if the descent is refused, and if it reaches a block leaf
 --   start_room: the remainder has room for the climb
 --   turn_there, leaf_there: the node that the climb turns to and the block leaf reached exist, and the remainder has room there
 --   laid, turn_at, leaf_at, lost_answer, leaf_answer: the same, given what the contracts of the calls say
+--   climbs_at, descends_at, target_at: what the calls require
 --   walk_end, walk_far: the walk answers nothing because of its position, or because |r| > n
 --   walk_starts: any other walk scans its start block
---   less_fits: -n fits into an i64
---   far_over, far_under, far_neither: the two comparisons of r with n and with -n decide whether |r| > n
+--   abs_size: the absolute value of r in the code is its size
 -- Assumes nothing.
 use mathlib.Core.Path.{◌≡◌, refl, sym, ap, ◌∙◌}
-use mathlib.Core.Bool.{Bool, true, false}
+use mathlib.Core.Bool.{true, false}
 use mathlib.Core.List.{List}
 use Prim.Native.Nat.{ℕ, ◌+◌, ◌-◌, ◌*◌, ◌≤◌, ◌<◌, min}
 use native.Mathlib.Omega.{arith}
 use native.Mathlib.Decide.{dec_lt}
 use borrow.Author.Tests.{lt-ltb, le-ltb}
-use lib.IntN.{ℤ, pos, negsuc, ◌-ℤ◌}
-use lib.Signed.{lt_z}
+use lib.IntN.{ℤ, pos, negsuc}
+use lib.ListN.{length}
 use mir.Syntax.{w64}
 use mir.Val.{SFits, to_z, of_z}
-use mir.Facts.{to_z_pos}
 use mir.ValLaws.{to_z-of_z}
+use Rattle.std.specs.Prelude.{Option, Some, Result, Ok, Err, unsigned_abs}
+use Rattle.row.specs.declared.refusal.Refusal.{Refusal}
+use Rattle.row.specs.declared.refusal.Refusal.TheVariants.{NodesMisfit}
 use Rattle.row.specs.Limits.{max_bits}
-use Rattle.ints.specs.Sides.{up, dn, size}
-use Rattle.ints.proofs.Linear.{minus}
-use Rattle.ints.proofs.Shapes.{zsum}
-use Rattle.row.specs.Answer.{at, nothing, refused}
+use Rattle.ints.specs.Sides.{size}
+use Rattle.row.specs.Answer.{nothing, paper_found}
 use Rattle.row.specs.Bits.{bit_at}
 use Rattle.row.specs.Way.{Way}
-use Rattle.bits_stretch.specs.declared.bits.Scanned.{Scanned}
-use Rattle.bits_stretch.specs.declared.bits.Scanned.TheVariants.{Hit, Left}
-use Rattle.bits_stretch.specs.Scan.{scan}
+use Rattle.bits_stretch.specs.Scan.{Scanned, scan}
+use Rattle.std.specs.declared.ops.ControlFlow.TheVariants.{Break, Continue}
 use Rattle.mmt_layout.specs.declared.Layout.{Layout}
-use Rattle.mmt_layout.specs.Layout.{leaves, layout_of, inner, count, max_block, max_nodes}
+use Rattle.mmt_layout.specs.Layout.{leaves, layout_of, inner, count, max_block, max_nodes, Fine}
 use Rattle.mmt_layout.proofs.Powers.{inner_top, leaves_out}
-use Rattle.mmt_layout.proofs.Admitted.{count_small}
-use Rattle.mmt_layout.proofs.Places.{inner_is, count_is, place_leaf}
+use Rattle.mmt_layout.proofs.Gates.{count_small}
+use Rattle.mmt_layout.proofs.Places.{inner_is, count_is, place_leaf, leaf_in}
 use Rattle.mmt_node.proofs.Covered.{top}
-use Rattle.walk_spec.specs.Walk.{Climb, turn, out, misfit, climb, Descent, leaf, lost, descend, ends_at_once, start_block, start_scan, in_leaf, land, beyond, in_start, walk}
+use Rattle.walk_spec.specs.Walk.{Climb, turn, out, misfit, climb, Descent, leaf, lost, descend, ends_at_once, start_block, start_scan, in_leaf, beyond, in_start, walk}
 use Rattle.walk_spec.proofs.Stretches.{block_place}
 use Rattle.walk_examine.specs.Asked.{Room}
 use Rattle.walk_examine.proofs.Asks.{room_fits}
-use Rattle.walk_climb.specs.declared.path.Climbed.{Climbed}
-use Rattle.walk_climb.specs.declared.path.Climbed.TheVariants.{Turn, Out, Misfit as MisfitClimbed}
-use Rattle.walk_climb.specs.Climbed.{climbed_of}
+use Rattle.walk_climb.specs.declared.Place.{Place}
+use Rattle.walk_climb.specs.Climbed.{climbed_of, Climbs}
 use Rattle.walk_climb.proofs.Climbs.{Turned, turned}
-use Rattle.walk_descend.specs.declared.path.Descended.{Descended}
-use Rattle.walk_descend.specs.declared.path.Descended.TheVariants.{Leaf, Lost}
-use Rattle.walk_descend.specs.Descended.{descended_of}
+use Rattle.walk_descend.specs.declared.Leaf.{Leaf}
+use Rattle.walk_descend.specs.Descended.{descended_of, Descends}
 use Rattle.walk_descend.proofs.Descends.{descend_count, Landed, landed}
-use Rattle.walk_code.specs.WalkParts.{StartPassed}
+use Rattle.walk_code.specs.WalkParts.{StartPassed, TargetBlock}
 
 -- ---- a climb or a descent, given its result without the count of examined nodes
-turn_is : (x : Climb) (k h : ℕ) (r : ℤ) → climbed_of x ≡ Turn k h r → (c : ℕ) × (x ≡ turn k h r c)
-turn_is (turn j g q c) k h r e = (c, cc)
-turn_is (out c) k h r e = let z : ◌≡◌ {A = ℕ} 0 1 = cc in absurd (omega arith)
-turn_is misfit k h r e = let z : ◌≡◌ {A = ℕ} 0 1 = cc in absurd (omega arith)
+turn_is : (x : Climb) (p : Place) → climbed_of x ≡ Ok (Some p) → (c : ℕ) × (x ≡ turn p.node p.height p.remainder c)
+turn_is (turn j g q c) p e =
+    let d : ◌≡◌ {A = Place} (record { node = j; height = g; remainder = q }) p = cc in
+    (c, ap (λ (p : Place). turn p.node p.height p.remainder c) d)
+turn_is (out c) p e = let z : ◌≡◌ {A = ℕ} 0 1 = cc in absurd (omega arith)
+turn_is misfit p e = let z : ◌≡◌ {A = ℕ} 0 1 = cc in absurd (omega arith)
 
-out_is : (x : Climb) → climbed_of x ≡ Out → (c : ℕ) × (x ≡ out c)
-out_is (turn j g q c) e = let z : ◌≡◌ {A = ℕ} 0 1 = cc in absurd (omega arith)
-out_is (out c) e = (c, refl)
-out_is misfit e = let z : ◌≡◌ {A = ℕ} 0 1 = cc in absurd (omega arith)
+leaf_is : (x : Descent) (l : Leaf) → descended_of x ≡ Ok l → (c : ℕ) × (x ≡ leaf l.node l.remainder c)
+leaf_is (leaf j q c) l e =
+    let d : ◌≡◌ {A = Leaf} (record { node = j; remainder = q }) l = cc in
+    (c, ap (λ (l : Leaf). leaf l.node l.remainder c) d)
+leaf_is lost l e = let z : ◌≡◌ {A = ℕ} 0 1 = cc in absurd (omega arith)
 
-misfit_is : (x : Climb) → climbed_of x ≡ MisfitClimbed → x ≡ misfit
-misfit_is (turn j g q c) e = let z : ◌≡◌ {A = ℕ} 0 1 = cc in absurd (omega arith)
-misfit_is (out c) e = let z : ◌≡◌ {A = ℕ} 0 1 = cc in absurd (omega arith)
-misfit_is misfit e = refl
-
-leaf_is : (x : Descent) (k : ℕ) (r : ℤ) → descended_of x ≡ Leaf k r → (c : ℕ) × (x ≡ leaf k r c)
-leaf_is (leaf j q c) k r e = (c, cc)
-leaf_is lost k r e = let z : ◌≡◌ {A = ℕ} 0 1 = cc in absurd (omega arith)
-
-lost_is : (x : Descent) → descended_of x ≡ Lost → x ≡ lost
-lost_is (leaf j q c) e = let z : ◌≡◌ {A = ℕ} 0 1 = cc in absurd (omega arith)
-lost_is lost e = refl
+lost_is : (x : Descent) (k : Refusal) → descended_of x ≡ Err k → (x ≡ lost) × (NodesMisfit ≡ k)
+lost_is (leaf j q c) k e = let z : ◌≡◌ {A = ℕ} 0 1 = cc in absurd (omega arith)
+lost_is lost k e = (refl, cc)
 
 -- ---- the layout, and the leaf of block b in it
 pub record Laid (n B b : ℕ) (x : Layout) : Type 0 where
@@ -93,72 +81,56 @@ module _ (n B b : ℕ) (eight : 8 ≤ B) (short : n ≤ max_bits) (l : b * B < n
   start_there : inner n B + b < count n B
   start_there = omega (arith, which, inner_is n B (omega arith), count_is n B (omega arith))
 
-  pub laid_out : (x : Layout) → x ≡ layout_of n B → Laid n B b x
+  laid_out : (x : Layout) → x ≡ layout_of n B → Laid n B b x
   laid_out x e = record { first = ap (λ (y : Layout). y.inner) e; all = rw e (omega arith); few = count_small n B eight short; there = start_there }
 
 module _ (w : Way) (ws : List ℕ) (n : ℕ) (s : List ℤ) (B : ℕ) where
-  -- ---- the target block, that of node k
+  -- ---- the target block b
   abbrev inside : ℕ → ℤ → Scanned
-  inside k r = scan w (bit_at ws) (min B (n - (k - inner n B) * B)) ((k - inner n B) * B) r
-
-  pub leaf_hit : (k : ℕ) (r : ℤ) (j : ℕ) → inside k r ≡ Hit j → at j ≡ (land w ws n s B (leaf k r 0)).answer
-  leaf_hit k r j e = rw e
-
-  pub leaf_left : (k : ℕ) (r q : ℤ) → inside k r ≡ Left q → refused 8 ≡ (land w ws n s B (leaf k r 0)).answer
-  leaf_left k r q e = rw e
+  inside b r = scan w (bit_at ws) (min B (n - b * B)) (b * B) r
 
   leaf_count : (x : Scanned) (c : ℕ) → (in_leaf w ws n s B x 0).answer ≡ (in_leaf w ws n s B x c).answer
-  leaf_count (Hit j) c = refl
-  leaf_count (Left q) c = refl
-
-  -- ---- the start block b
-  pub start_hit : (b j : ℕ) {x : Scanned} → x ≡ Hit j → at j ≡ (in_start w ws n s B b x).answer
-  start_hit b j e = rw e
-
-  pub start_left : (b : ℕ) (q : ℤ) {x : Scanned} → x ≡ Left q → (beyond w ws n s B b q).answer ≡ (in_start w ws n s B b x).answer
-  start_left b q e = rw e
+  leaf_count (Break j) c = refl
+  leaf_count (Continue q) c = refl
 
   -- ---- after the start block b
   module _ (b : ℕ) (r : ℤ) where
     abbrev climbing : Climb
     climbing = climb w (count n B) s (inner n B + b) 0 (inner n B + b) r 0
 
-    pub beyond_out : climbed_of climbing ≡ Out → nothing ≡ (beyond w ws n s B b r).answer
-    beyond_out e = rw (out_is climbing e).1
-
-    pub beyond_misfit : climbed_of climbing ≡ MisfitClimbed → refused 8 ≡ (beyond w ws n s B b r).answer
-    beyond_misfit e = rw (misfit_is climbing e)
-
-    module _ (k h : ℕ) (p : ℤ) (e : climbed_of climbing ≡ Turn k h p) where
+    module _ (p : Place) (e : climbed_of climbing ≡ Ok (Some p)) where
       abbrev d : ℕ
-      d = (turn_is climbing k h p e).0
+      d = (turn_is climbing p e).0
 
-      pub beyond_lost : descended_of (descend w (count n B) s h k p 0) ≡ Lost → refused 8 ≡ (beyond w ws n s B b r).answer
-      beyond_lost f = rw ((turn_is climbing k h p e).1, lost_is (descend w (count n B) s h k p d) (descend_count w (count n B) s h k p d 0 ∙ f))
+      abbrev descent : ℕ → Descent
+      descent c = descend w (count n B) s p.height p.node p.remainder c
 
-      pub beyond_leaf : (j : ℕ) (q : ℤ) → descended_of (descend w (count n B) s h k p 0) ≡ Leaf j q
-          → (land w ws n s B (leaf j q 0)).answer ≡ (beyond w ws n s B b r).answer
-      beyond_leaf j q f =
-          let y = leaf_is (descend w (count n B) s h k p d) j q (descend_count w (count n B) s h k p d 0 ∙ f) in
-          rw ((turn_is climbing k h p e).1, y.1) (leaf_count (inside j q) y.0)
+      beyond_lost : (k : Refusal) → descended_of (descent 0) ≡ Err k → paper_found (Err k) ≡ (beyond w ws n s B b r).answer
+      beyond_lost k f =
+          let y = lost_is (descent d) k (descend_count w (count n B) s p.height p.node p.remainder d 0 ∙ f) in
+          rw (sym y.1, (turn_is climbing p e).1, y.0)
+
+      beyond_leaf : (l : Leaf) → descended_of (descent 0) ≡ Ok l → (in_leaf w ws n s B (inside (l.node - inner n B) l.remainder) 0).answer ≡ (beyond w ws n s B b r).answer
+      beyond_leaf l f =
+          let y = leaf_is (descent d) l (descend_count w (count n B) s p.height p.node p.remainder d 0 ∙ f) in
+          rw ((turn_is climbing p e).1, y.1) (leaf_count (inside (l.node - inner n B) l.remainder) y.0)
 
     -- the nodes on the way exist, if b is a block of the row
-    module _ (eight : 8 ≤ B) (short : n ≤ max_bits) (l : b * B < n) where
-      module _ (o : size r ≤ (max_bits + max_block)) where
-        pub start_room : Room (0 + 2 * (inner n B + b)) r
-        start_room = omega (arith, start_there n B b eight short l, count_small n B eight short)
+    module _ (eight : 8 ≤ B) (short : n ≤ max_bits) (l : b * B < n) (o : size r ≤ (max_bits + max_block)) where
+      start_room : Room (0 + 2 * (inner n B + b)) r
+      start_room = omega (arith, start_there n B b eight short l, count_small n B eight short)
 
-        module _ (k h : ℕ) (p : ℤ) (e : climbed_of climbing ≡ Turn k h p) where
-          pub turn_there : Turned (count n B) (top n B) (Turn k h p)
-          turn_there =
-              rw e at (turned w (count n B) s (top n B) (inner n B + b) 0 (inner n B + b) r 0 (start_there n B b eight short l)
-              (block_place ws n B (omega arith) (omega arith) b (which n B b eight short l)) start_room)
+      module _ (p : Place) (e : climbed_of climbing ≡ Ok (Some p)) where
+        turn_there : Turned (count n B) (top n B) (Ok (Some p))
+        turn_there =
+            rw e at (turned w (count n B) s (top n B) (inner n B + b) 0 (inner n B + b) r 0 (start_there n B b eight short l)
+            (block_place ws n B (omega arith) (omega arith) b (which n B b eight short l)) start_room)
 
-          pub leaf_there : (j : ℕ) (q : ℤ) → descended_of (descend w (count n B) s h k p 0) ≡ Leaf j q → (inner n B ≤ j) × (j < count n B) × Room 0 q
-          leaf_there j q f =
-              let t = turn_there in
-              let y : Landed (count n B) (top n B) (Leaf j q) = rw f at (landed w (count n B) s (top n B) h k p 0 t.0 t.1 t.2) in
-              (omega (arith, place_leaf (top n B) j y.1, inner_top (leaves n B), inner_is n B (omega arith)), y.0, y.2)
+        leaf_there : (j : Leaf) → descended_of (descent p e 0) ≡ Ok j → (inner n B ≤ j.node) × (j.node < count n B) × Room 0 j.remainder
+        leaf_there j f =
+            let t = turn_there in
+            let y : Landed (count n B) (top n B) (Ok j) = rw f at (landed w (count n B) s (top n B) p.height p.node p.remainder 0 t.0 t.1 t.2) in
+            (omega (arith, place_leaf (top n B) j.node y.1, inner_top (leaves n B), inner_is n B (omega arith)), y.0, y.2)
 
   -- ---- the whole walk
   module _ (i : ℕ) (r : ℤ) where
@@ -176,60 +148,60 @@ module _ (w : Way) (ws : List ℕ) (n : ℕ) (s : List ℤ) (B : ℕ) where
         unfolding walk
         walk_starts x = rw (e, le-ltb n (size r) f, x)
 
--- ---- the calls of `beyond_bwd` and `beyond_fwd`, in the words of their contracts: the layout x, the climb z, the descent y
-module _ (w : Way) (ws : List ℕ) (n : ℕ) (s : List ℤ) (B b : ℕ) (r : ℤ) {t : List ℕ} {o m : ℕ} (p : StartPassed t o n m B b r) (v : SFits w64 r) (x : Layout) (e : x ≡ layout_of n B) where
-  pub laid : Laid n B b x
-  laid = laid_out n B b p.fine.eight p.fine.short p.begins x e
+-- ---- the calls of `beyond`, in the words of their contracts: the layout x, the climb z, the descent y
+module _ (w : Way) (ws : List ℕ) (n : ℕ) (s : List ℤ) (B b : ℕ) (r : ℤ) (fine : Fine (length ws) n (length s) B) (p : StartPassed n B b r) (v : SFits w64 r)
+    (x : Layout) (e : x ≡ layout_of n B) where
+  laid : Laid n B b x
+  laid = laid_out n B b fine.eight fine.short p.begins x e
 
-  module _ {z : Climbed} (f : z ≡ climbed_of (climb w (x.inner + x.leaves) s (x.inner + b) 0 (x.inner + b) (to_z w64 (of_z w64 r)) 0)) (k h : ℕ) (q : ℤ) (g : z ≡ Turn k h q) where
-    climbed : climbed_of (climbing w ws n s B b r) ≡ Turn k h q
+  pub climbs_at : Climbs (x.inner + x.leaves) (length s) (x.inner + b) 0 (to_z w64 (of_z w64 r))
+  climbs_at =
+      let l = laid in
+      let o = start_room w ws n s B b r fine.eight fine.short p.begins p.near in
+      rw (to_z-of_z w64 r v, l.all, l.first) (record { nodes = omega (arith, fine.nodes); inside = l.there; room = o })
+
+  module _ {z : Result (Option Place) Refusal} (f : z ≡ climbed_of (climb w (x.inner + x.leaves) s (x.inner + b) 0 (x.inner + b) (to_z w64 (of_z w64 r)) 0))
+      (k : Place) (g : z ≡ Ok (Some k)) where
+    climbed : climbed_of (climbing w ws n s B b r) ≡ Ok (Some k)
     climbed = sym (rw (to_z-of_z w64 r v, laid.all, laid.first) at f) ∙ g
 
-    pub turn_at : Turned (count n B) (top n B) (Turn k h q)
-    turn_at = turn_there w ws n s B b r p.fine.eight p.fine.short p.begins p.near k h q climbed
+    turn_at : Turned (count n B) (top n B) (Ok (Some k))
+    turn_at = turn_there w ws n s B b r fine.eight fine.short p.begins p.near k climbed
 
-    module _ {y : Descended} (d : y ≡ descended_of (descend w (x.inner + x.leaves) s h k (to_z w64 (of_z w64 q)) 0)) where
-      landing : y ≡ descended_of (descend w (count n B) s h k q 0)
-      landing = rw (to_z-of_z w64 q (room_fits h q turn_at.2), laid.all) at d
+    pub descends_at : Descends (x.inner + x.leaves) (length s) k.node k.height (to_z w64 (of_z w64 k.remainder))
+    descends_at =
+        rw (to_z-of_z w64 k.remainder (room_fits k.height k.remainder turn_at.2), laid.all)
+        (record { nodes = omega (arith, fine.nodes); inside = turn_at.0; few = laid.few; room = turn_at.2 })
 
-      pub lost_answer : y ≡ Lost → refused 8 ≡ (beyond w ws n s B b r).answer
-      lost_answer l = beyond_lost w ws n s B b r k h q climbed (sym landing ∙ l)
+    module _ {y : Result Leaf Refusal} (d : y ≡ descended_of (descend w (x.inner + x.leaves) s k.height k.node (to_z w64 (of_z w64 k.remainder)) 0)) where
+      landing : y ≡ descended_of (descend w (count n B) s k.height k.node k.remainder 0)
+      landing = rw (to_z-of_z w64 k.remainder (room_fits k.height k.remainder turn_at.2), laid.all) at d
 
-      module _ (j : ℕ) (u : ℤ) (l : y ≡ Leaf j u) where
-        pub leaf_at : (inner n B ≤ j) × (j < count n B) × Room 0 u
-        leaf_at = leaf_there w ws n s B b r p.fine.eight p.fine.short p.begins p.near k h q climbed j u (sym landing ∙ l)
+      pub lost_answer : {q : Refusal} → y ≡ Err q → paper_found (Err q) ≡ (beyond w ws n s B b r).answer
+      lost_answer {q} l = beyond_lost w ws n s B b r k climbed q (sym landing ∙ l)
 
-        pub leaf_answer : (land w ws n s B (leaf j (to_z w64 (of_z w64 u)) 0)).answer ≡ (beyond w ws n s B b r).answer
-        leaf_answer = rw (to_z-of_z w64 u (room_fits 0 u leaf_at.2)) (beyond_leaf w ws n s B b r k h q climbed j u (sym landing ∙ l))
+      module _ (j : Leaf) (l : y ≡ Ok j) where
+        leaf_at : (inner n B ≤ j.node) × (j.node < count n B) × Room 0 j.remainder
+        leaf_at = leaf_there w ws n s B b r fine.eight fine.short p.begins p.near k climbed j (sym landing ∙ l)
 
--- ---- the test whether |r| > n
-size_in : (n : ℕ) (r : ℤ) → up r ≤ n + dn r → dn r ≤ n + up r → size r ≤ n
-size_in n (pos c) h k = omega arith
-size_in n (negsuc c) h k = omega arith
+        leaf_back : to_z w64 (of_z w64 j.remainder) ≡ j.remainder
+        leaf_back = to_z-of_z w64 j.remainder (room_fits 0 j.remainder leaf_at.2)
 
--- the code compares r with n and with -n as signed numbers; it never negates r, because the least i64 has no negation
-module _ (n : ℕ) (short : n ≤ max_bits) where
-  signed : to_z w64 n ≡ pos n
-  signed = to_z_pos w64 (omega arith)
+        pub leaf_after : x.inner ≤ j.node
+        leaf_after = rw laid.first leaf_at.0
 
-  pub less_fits : SFits w64 (pos 0 -ℤ to_z w64 n)
-  less_fits = rw signed (omega zsum)
+        pub target_at : TargetBlock n B (j.node - x.inner) (to_z w64 (of_z w64 j.remainder))
+        target_at =
+            rw (leaf_back, laid.first)
+            (record { begins = leaf_in n B j.node (omega (arith, fine.eight)) leaf_at.1 leaf_at.0; room = leaf_at.2 })
 
-  module _ (r : ℤ) (f : SFits w64 r) where
-    abbrev over : Bool
-    over = lt_z (to_z w64 n) (to_z w64 (of_z w64 r))
+        pub leaf_answer : (in_leaf w ws n s B (inside w ws n s B (j.node - x.inner) (to_z w64 (of_z w64 j.remainder))) 0).answer ≡ (beyond w ws n s B b r).answer
+        leaf_answer = rw (leaf_back, laid.first) (beyond_leaf w ws n s B b r k climbed j (sym landing ∙ l))
 
-    abbrev under : Bool
-    under = lt_z (to_z w64 (of_z w64 r)) (to_z w64 (of_z w64 (pos 0 -ℤ to_z w64 n)))
+-- ---- the test whether |r| > n, where the machine reads r back from 64 bits
+abs_is : (r : ℤ) → unsigned_abs r ≡ size r
+abs_is (pos n) = omega arith
+abs_is (negsuc n) = omega arith
 
-    pub far_over : over ≡ true → n < size r
-    far_over h = let t = rw (signed, to_z-of_z w64 r f) at h in omega zsum
-
-    pub far_under : under ≡ true → n < size r
-    far_under h = let t = rw (to_z-of_z w64 (pos 0 -ℤ to_z w64 n) less_fits, signed, to_z-of_z w64 r f) at h in omega (zsum, minus (pos 0) (pos n))
-
-    pub far_neither : over ≡ false → under ≡ false → size r ≤ n
-    far_neither h k =
-        let t = rw (signed, to_z-of_z w64 r f) at h in
-        let u = rw (to_z-of_z w64 (pos 0 -ℤ to_z w64 n) less_fits, signed, to_z-of_z w64 r f) at k in
-        size_in n r (omega zsum) (omega (zsum, minus (pos 0) (pos n)))
+pub abs_size : {r : ℤ} {a : ℕ} → SFits w64 r → a ≡ unsigned_abs (to_z w64 (of_z w64 r)) → a ≡ size r
+abs_size {r} f e = rw (to_z-of_z w64 r f, abs_is r) at e

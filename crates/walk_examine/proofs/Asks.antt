@@ -4,11 +4,12 @@
 --   passed_size: a passed node makes the remainder larger by at most 2^32
 --   room_fits: a remainder with room fits into an i64
 --   passed_fits: so does the remainder after a passed node
---   told_no, told_yes: what the two results of the test `!near_zero(z)` say about z
+--   told: what the result b of the test `near_zero(z)` says about z
 --   examined_total, examined_least, examined_greatest: the node is a misfit because of this entry
 --   examined_fit: all entries are in range
 --   Looked, looked: what each result of `examine` says about the node
---   total_back: the total that the machine reads is the total of the node
+--   back: the machine reads a remainder with room back as it is
+--   total_back, total_room, past_back: so it does with the total of a node in range, and with the remainder after the node
 --   asked_absent, asked_misfit, asked_here, asked_past: the answer of a node in each of the four cases
 --   answer: the answer of the node, where the machine reads the remainder back from 64 bits
 --   Says, says: what each answer says about the node
@@ -17,6 +18,7 @@
 use mathlib.Core.Path.{◌≡◌, refl, sym, ◌∙◌}
 use mathlib.Core.Bool.{Bool, true, false, cond, ◌&&◌}
 use mathlib.Core.List.{List}
+use Rattle.std.specs.Prelude.{Result, Ok, Err}
 use Prim.Native.Nat.{ℕ, ◌+◌, ◌≤◌, ◌<◌}
 use native.Mathlib.Omega.{arith}
 use borrow.Author.Tests.{leb-true, leb-false, le-leb, lt-leb}
@@ -26,6 +28,7 @@ use lib.Signed.{le_z}
 use mir.Syntax.{w64}
 use mir.Val.{SFits, to_z, of_z}
 use mir.ValLaws.{to_z-of_z}
+use Rattle.ints.specs.Limits.{i64_bound}
 use Rattle.row.specs.Limits.{max_bits}
 use Rattle.ints.specs.Sides.{size}
 use Rattle.ints.proofs.Linear.{plus_size, minus_size}
@@ -35,11 +38,12 @@ use Rattle.row.proofs.Bools.{and_left, and_right}
 use Rattle.bits_stretch.specs.declared.summary.Summary.{Summary}
 use Rattle.bits_stretch.specs.Scan.{passed}
 use Rattle.mmt_node.specs.Nodes.{node_at}
-use Rattle.walk_spec.specs.Walk.{in_range, fits, holds_on}
-use Rattle.walk_examine.specs.declared.ask.Examined.{Examined}
-use Rattle.walk_examine.specs.declared.ask.Examined.TheVariants.{Fit, Misfit as MisfitNode}
-use Rattle.walk_examine.specs.declared.ask.Asked.{Asked}
-use Rattle.walk_examine.specs.declared.ask.Asked.TheVariants.{Here, Past, Absent, Misfit as MisfitAsked}
+use Rattle.bits_stretch.specs.Summary.{holds_on}
+use Rattle.walk_spec.specs.Walk.{in_range, fits}
+use Rattle.row.specs.declared.refusal.Refusal.{Refusal}
+use Rattle.row.specs.declared.refusal.Refusal.TheVariants.{NodesMisfit}
+use Rattle.walk_examine.specs.declared.node.Asked.{Asked}
+use Rattle.walk_examine.specs.declared.node.Asked.TheVariants.{Here, Past, Absent}
 use Rattle.walk_examine.specs.Asked.{examined_of, asked_of, Room}
 
 -- ---- sizes
@@ -63,87 +67,99 @@ room_fits c r h = omega zsum
 pub passed_fits : (w : Way) (r : ℤ) (x : Summary) → fits x ≡ true → Room 0 r → SFits w64 (passed w r x.total)
 passed_fits w r x e h = omega (zsum, passed_size w r x e)
 
--- ---- the test `!near_zero(z)`, where the machine reads z back from 64 bits
-pub told_no : {z : ℤ} {b : Bool} → SFits w64 z → b ≡ in_range (to_z w64 (of_z w64 z)) → b ≡ false → in_range z ≡ false
-told_no {z} {b} f q e = sym (rw (to_z-of_z w64 z f) at q) ∙ e
-
-pub told_yes : {z : ℤ} {b : Bool} → SFits w64 z → b ≡ in_range (to_z w64 (of_z w64 z)) → b ≡ true → in_range z ≡ true
-told_yes {z} {b} f q e = sym (rw (to_z-of_z w64 z f) at q) ∙ e
+-- ---- the test of an entry z, where the machine reads z back from 64 bits
+pub told : {z : ℤ} {b : Bool} → SFits w64 z → b ≡ in_range (to_z w64 (of_z w64 z)) → in_range z ≡ b
+told {z} {b} f q = sym (rw (to_z-of_z w64 z f) at q)
 
 -- ---- an examined node with the entries x
 module _ (x : Summary) where
-  pub examined_total : in_range x.total ≡ false → MisfitNode ≡ examined_of x
+  pub examined_total : in_range x.total ≡ false → Err NodesMisfit ≡ examined_of x
   unfolding examined_of fits
   examined_total p = rw p
 
-  pub examined_least : in_range x.total ≡ true → in_range x.least ≡ false → MisfitNode ≡ examined_of x
+  pub examined_least : in_range x.total ≡ true → in_range x.least ≡ false → Err NodesMisfit ≡ examined_of x
   unfolding examined_of fits
   examined_least p q = rw (p, q)
 
-  pub examined_greatest : in_range x.total ≡ true → in_range x.least ≡ true → in_range x.greatest ≡ false → MisfitNode ≡ examined_of x
+  pub examined_greatest : in_range x.total ≡ true → in_range x.least ≡ true → in_range x.greatest ≡ false → Err NodesMisfit ≡ examined_of x
   unfolding examined_of fits
   examined_greatest p q t = rw (p, q, t)
 
-  pub examined_fit : in_range x.total ≡ true → in_range x.least ≡ true → in_range x.greatest ≡ true → Fit x ≡ examined_of x
+  pub examined_fit : in_range x.total ≡ true → in_range x.least ≡ true → in_range x.greatest ≡ true → Ok x ≡ examined_of x
   unfolding examined_of fits
   examined_fit p q t = rw (p, q, t)
 
   -- what each result of `examine` says about x
-  abbrev pub Looked : Examined → Type 0
-  Looked (Fit y) = (fits x ≡ true) × (x ≡ y)
-  Looked MisfitNode = fits x ≡ false
+  abbrev pub Looked : Result Summary Refusal → Type 0
+  Looked (Ok y) = (fits x ≡ true) × (x ≡ y)
+  Looked (Err e) = (fits x ≡ false) × (NodesMisfit ≡ e)
 
-  looks : (b : Bool) → fits x ≡ b → Looked (cond b (Fit x) MisfitNode)
+  looks : (b : Bool) → fits x ≡ b → Looked (cond b (Ok x) (Err NodesMisfit))
   looks true e = (e, refl)
-  looks false e = e
+  looks false e = (e, refl)
 
-  pub looked : {a b : Examined} → a ≡ examined_of x → a ≡ b → Looked b
+  pub looked : {b : Result Summary Refusal} → examined_of x ≡ b → Looked b
   unfolding examined_of
-  looked {a} {b} p q = rw (sym q ∙ p) (looks (fits x) refl)
+  looked {b} q = rw (sym q) (looks (fits x) refl)
 
-  pub total_back : {y : Summary} → Looked (Fit y) → to_z w64 (of_z w64 y.total) ≡ x.total
-  total_back {y} l = rw (sym l.1) (to_z-of_z w64 x.total (omega (zsum, fits_size x l.0)))
+-- ---- the remainder r and the total of an examined node, which the machine reads back from 64 bits
+pub back : (r : ℤ) → Room 0 r → to_z w64 (of_z w64 r) ≡ r
+back r o = to_z-of_z w64 r (room_fits 0 r o)
+
+module _ (x y : Summary) (p : examined_of x ≡ Ok y) where
+  ok_size : size y.total ≤ max_bits
+  ok_size = let h = looked x p in rw (sym h.1) (fits_size x h.0)
+
+  pub total_back : to_z w64 (of_z w64 y.total) ≡ y.total
+  total_back = to_z-of_z w64 y.total (omega (zsum, ok_size))
+
+  module _ (r : ℤ) (o : Room 0 r) where
+    pub total_room : size r + size y.total < i64_bound
+    total_room = omega (arith, ok_size)
+
+    pub past_back : (w : Way) → to_z w64 (of_z w64 (passed w r y.total)) ≡ passed w r y.total
+    past_back w = let h = looked x p in rw (sym h.1) (to_z-of_z w64 (passed w r x.total) (passed_fits w r x h.0 o))
 
 -- ---- node k of m nodes, asked for the remainder r
 module _ (w : Way) (m : ℕ) (s : List ℤ) (k : ℕ) (r : ℤ) where
-  pub asked_absent : m ≤ k → Absent ≡ asked_of w m s k r
+  pub asked_absent : m ≤ k → Ok Absent ≡ asked_of w m s k r
   unfolding asked_of
   asked_absent l = rw (le-leb m k l)
 
   module _ (l : k < m) where
-    pub asked_misfit : fits (node_at s k) ≡ false → MisfitAsked ≡ asked_of w m s k r
+    pub asked_misfit : {e : Refusal} → examined_of (node_at s k) ≡ Err e → Err e ≡ asked_of w m s k r
     unfolding asked_of
-    asked_misfit f = rw (lt-leb m k l, f)
+    asked_misfit p = let h = looked (node_at s k) p in rw (lt-leb m k l, h.0, sym h.1)
 
-    module _ (f : fits (node_at s k) ≡ true) where
-      pub asked_here : holds_on w (node_at s k) r ≡ true → Here ≡ asked_of w m s k r
+    module _ {x : Summary} (p : examined_of (node_at s k) ≡ Ok x) where
+      pub asked_here : holds_on w x r ≡ true → Ok Here ≡ asked_of w m s k r
       unfolding asked_of
-      asked_here y = rw (lt-leb m k l, f, y)
+      asked_here y = let h = looked (node_at s k) p in rw (lt-leb m k l, h.0, h.1, y)
 
-      pub asked_past : holds_on w (node_at s k) r ≡ false → Past (passed w r (node_at s k).total) ≡ asked_of w m s k r
+      pub asked_past : holds_on w x r ≡ false → Ok (Past (passed w r x.total)) ≡ asked_of w m s k r
       unfolding asked_of
-      asked_past y = rw (lt-leb m k l, f, y)
+      asked_past y = let h = looked (node_at s k) p in rw (lt-leb m k l, h.0, h.1, y)
 
-  pub answer : {a b : Asked} → SFits w64 r → a ≡ asked_of w m s k (to_z w64 (of_z w64 r)) → a ≡ b → asked_of w m s k r ≡ b
+  pub answer : {a b : Result Asked Refusal} → SFits w64 r → a ≡ asked_of w m s k (to_z w64 (of_z w64 r)) → a ≡ b → asked_of w m s k r ≡ b
   answer {a} {b} f p e = sym (rw (to_z-of_z w64 r f) at p) ∙ e
 
   -- what each answer says about node k
-  abbrev pub Says : Asked → Type 0
-  Says Here = (k < m) × (fits (node_at s k) ≡ true) × (holds_on w (node_at s k) r ≡ true)
-  Says (Past q) = (k < m) × (fits (node_at s k) ≡ true) × (holds_on w (node_at s k) r ≡ false) × (passed w r (node_at s k).total ≡ q)
-  Says Absent = m ≤ k
-  Says MisfitAsked = (k < m) × (fits (node_at s k) ≡ false)
+  abbrev pub Says : Result Asked Refusal → Type 0
+  Says (Ok Here) = (k < m) × (fits (node_at s k) ≡ true) × (holds_on w (node_at s k) r ≡ true)
+  Says (Ok (Past q)) = (k < m) × (fits (node_at s k) ≡ true) × (holds_on w (node_at s k) r ≡ false) × (passed w r (node_at s k).total ≡ q)
+  Says (Ok Absent) = m ≤ k
+  Says (Err e) = (k < m) × (fits (node_at s k) ≡ false) × (NodesMisfit ≡ e)
 
   said : (a b c : Bool) → leb m k ≡ a → fits (node_at s k) ≡ b → holds_on w (node_at s k) r ≡ c
-      → Says (cond a Absent (cond b (cond c Here (Past (passed w r (node_at s k).total))) MisfitAsked))
+      → Says (cond a (Ok Absent) (cond b (cond c (Ok Here) (Ok (Past (passed w r (node_at s k).total)))) (Err NodesMisfit)))
   said true b c p q t = leb-true m k p
-  said false false c p q t = (leb-false m k p, q)
+  said false false c p q t = (leb-false m k p, q, refl)
   said false true true p q t = (leb-false m k p, q, t)
   said false true false p q t = (leb-false m k p, q, t, refl)
 
-  pub says : {a b : Asked} → a ≡ asked_of w m s k r → a ≡ b → Says b
+  pub says : {b : Result Asked Refusal} → asked_of w m s k r ≡ b → Says b
   unfolding asked_of
-  says {a} {b} p q = rw (sym q ∙ p) (said (leb m k) (fits (node_at s k)) (holds_on w (node_at s k) r) refl refl refl)
+  says {b} q = rw (sym q) (said (leb m k) (fits (node_at s k)) (holds_on w (node_at s k) r) refl refl refl)
 
-  pub past_size : (q : ℤ) → Says (Past q) → size q ≤ size r + max_bits
+  pub past_size : (q : ℤ) → Says (Ok (Past q)) → size q ≤ size r + max_bits
   past_size q a = rw a.3 at (passed_size w r (node_at s k) a.1)

@@ -1,9 +1,9 @@
 // Examines one min-max node: tests its three entries for range, and decides whether it qualifies for a remainder.
 //
 // The node buffer may be foreign. The range test comes before any use of an entry, so no sum leaves an i64.
-// A node that is out of range is an answer here (`Misfit`); the callers make it refusal 8.
+// A node that is out of range is refusal 8.
 #![tactic(auto)]
 
-mod ask;
+mod node;
 
-pub use ask::{Asked, Examined, ask_bwd, ask_fwd, examine};
+pub use node::{Asked, ask, examine};

@@ -16,7 +16,7 @@ use Rattle.row.specs.Limits.{max_bits}
 use Rattle.row.specs.Answer.{at}
 use Rattle.row.specs.Bits.{bit_at}
 use Rattle.row.specs.Way.{Way, forward, backward}
-use Rattle.bits_stretch.specs.declared.bits.Scanned.TheVariants.{Hit, Left}
+use Rattle.std.specs.declared.ops.ControlFlow.TheVariants.{Break, Continue}
 use Rattle.bits_stretch.specs.Summary.{summary_of}
 use Rattle.bits_stretch.specs.Scan.{passed}
 use Rattle.bits_stretch.proofs.Parts.{scan_onward}
@@ -42,7 +42,7 @@ module _ (ws : List ℕ) (n : ℕ) (s : List ℤ) (B : ℕ) (pB : 0 < B) (some :
   present h k p l = elim (dec_lt k (count n B)) [ yes y ↦ y | no z ↦ absurd (omega (arith, absent n B pB some h k p (omega arith))) ]
 
   -- a node whose bits contain a hit begins before n
-  begins : (w : Way) (h k j : ℕ) (r : ℤ) → bits_of w ws n B h k r ≡ Hit j → start_of n B h k < n
+  begins : (w : Way) (h k j : ℕ) (r : ℤ) → bits_of w ws n B h k r ≡ Break j → start_of n B h k < n
   begins w h k j r e = elim (dec_lt (start_of n B h k) n) [
     | yes y ↦ y
     | no z ↦ (let o = over_none (bit_at ws) w (start_of n B h k) (start_of n B h (suc k)) r (omega (arith, start_le n B pB h (suc k))) in
@@ -58,13 +58,13 @@ module _ (ws : List ℕ) (n : ℕ) (s : List ℤ) (B : ℕ) (pB : 0 < B) (some :
   into_near forward h k = start_child n B pB h k
   into_near backward h k = let e : suc (2 * k + 2) ≡ 2 * suc k + 1 = omega arith in rw e (start_child n B pB h (suc k))
 
-  into_far : (w : Way) (h k j : ℕ) (r : ℤ) → start_of n B h (nearer w k) < n → bits_of w ws n B h (farther w k) r ≡ Hit j → into w n B h (farther w k) < n
+  into_far : (w : Way) (h k j : ℕ) (r : ℤ) → start_of n B h (nearer w k) < n → bits_of w ws n B h (farther w k) r ≡ Break j → into w n B h (farther w k) < n
   into_far forward h k j r l e = begins forward h (2 * k + 2) j r e
   into_far backward h k j r l e = let d : suc (2 * k + 1) ≡ 2 * k + 2 = omega arith in rw d l
 
   -- if the sibling beyond node k does not exist, there are no bits beyond node k
   alone : (w : Way) (h k : ℕ) (r : ℤ) → Place (top n B) h (sibling_beyond w k) → start_of n B h k < n → (k ≡ 0 → ⊥) → count n B ≤ sibling_beyond w k
-      → rest_of w ws n B h k r ≡ Left r
+      → rest_of w ws n B h k r ≡ Continue r
   alone forward h k r p l z o = over_none (bit_at ws) forward (start_of n B h (suc k)) n r (omega (arith, rw add-one at (absent n B pB some h (k + 1) p o)))
   alone backward h k r p l z o =
       let e : suc (k - 1) ≡ k = omega arith in
@@ -96,7 +96,7 @@ module _ (ws : List ℕ) (n : ℕ) (s : List ℤ) (B : ℕ) (pB : 0 < B) (some :
 
     -- a descent from any node at height h answers the position j that the scan of its bits hits
     abbrev Lands : ℕ → Type 0
-    Lands h = (k j : ℕ) (r : ℤ) (c : ℕ) → Place (top n B) h k → into w n B h k < n → (r ≡ pos 0 → ⊥) → bits_of w ws n B h k r ≡ Hit j
+    Lands h = (k j : ℕ) (r : ℤ) (c : ℕ) → Place (top n B) h k → into w n B h k < n → (r ≡ pos 0 → ⊥) → bits_of w ws n B h k r ≡ Break j
         → (land w ws n s B (descend w (count n B) s h k r c)).answer ≡ at j
 
     at_leaf : Lands 0
@@ -114,10 +114,10 @@ module _ (ws : List ℕ) (n : ℕ) (s : List ℤ) (B : ℕ) (pB : 0 < B) (some :
         let i = present h (nearer w k) pn a in
         let f = node_fits h (nearer w k) pn i in
         let q = passed w r (node_at s (nearer w k)).total in
-        let both : Hit j ≡ scan_onward (bits_of w ws n B h (nearer w k) r) (bits_of w ws n B h (farther w k)) = sym e ∙ children ws n B pB w h k r in
+        let both : Break j ≡ scan_onward (bits_of w ws n B h (nearer w k) r) (bits_of w ws n B h (farther w k)) = sym e ∙ children ws n B pB w h k r in
         elim (node_told h (nearer w k) pn i w r z) [
           | here j₁ b t ↦ rw (← descend_near w (count n B) s (suc h) k r c nz i f t, d) (rec (nearer w k) j r (c + 1) pn m z (cc))
-          | past b t y ↦ (let g : bits_of w ws n B h (farther w k) q ≡ Hit j = cc in
+          | past b t y ↦ (let g : bits_of w ws n B h (farther w k) q ≡ Break j = cc in
               let o = present h (farther w k) pf (begins w h (farther w k) j q g) in
               let u = told_hit j (node_told h (farther w k) pf o w q y) g in
               rw (← descend_far w (count n B) s (suc h) k r c nz i f t o (node_fits h (farther w k) pf o) u, d)

@@ -21,8 +21,8 @@ use Rattle.row.specs.Answer.{Answer, at, nothing, refused}
 use Rattle.row.specs.Bits.{bit_at}
 use Rattle.row.specs.Excess.{excess}
 use Rattle.row.specs.Way.{Way, forward, backward, Before}
-use Rattle.bits_stretch.specs.declared.bits.Scanned.{Scanned}
-use Rattle.bits_stretch.specs.declared.bits.Scanned.TheVariants.{Hit, Left}
+use Rattle.bits_stretch.specs.Scan.{Scanned}
+use Rattle.std.specs.declared.ops.ControlFlow.TheVariants.{Break, Continue}
 use Rattle.bits_stretch.specs.Scan.{place, passed, scan}
 use Rattle.bits_stretch.proofs.Meets.{scan_nearest}
 use Rattle.mmt_layout.specs.Layout.{inner, count}
@@ -30,13 +30,14 @@ use Rattle.mmt_node.specs.Nodes.{node_at}
 use Rattle.mmt_layout.proofs.Powers.{leaves_in}
 use Rattle.mmt_layout.proofs.Places.{Place, place_up}
 use Rattle.mmt_node.proofs.Covered.{start_of, top, start_child, start_le, start_mono}
-use Rattle.walk_spec.specs.Walk.{fits, holds_on, Climb, last_sibling, sibling_beyond, climb, Descent, nearer, farther, descend, far, ends_at_once, start_block, start_scan, Walk, in_leaf, land, after_climb, in_start, walk}
+use Rattle.bits_stretch.specs.Summary.{holds_on}
+use Rattle.walk_spec.specs.Walk.{fits, Climb, last_sibling, sibling_beyond, climb, Descent, nearer, farther, descend, far, ends_at_once, start_block, start_scan, Walk, in_leaf, land, after_climb, in_start, walk}
 use Rattle.walk_spec.proofs.Ways.{near_place, far_place, side_place, chosen}
 use Rattle.walk_spec.proofs.Stretches.{over, bits_of, block_place, block_start, block_end, leaf_bits}
 use Rattle.walk_spec.proofs.Right.{Inside, inside, low, high, start_in}
 
 -- a scan hits a position among its bits
-hit_in : (w : Way) (f : ℕ → ℕ) (c a : ℕ) (r : ℤ) (j : ℕ) → scan w f c a r ≡ Hit j → (a ≤ j) × (j < a + c)
+hit_in : (w : Way) (f : ℕ → ℕ) (c a : ℕ) (r : ℤ) (j : ℕ) → scan w f c a r ≡ Break j → (a ≤ j) × (j < a + c)
 hit_in w f c a r j e =
     let g = rw e at (scan_nearest f (excess f (place w c a) +ℤ r) w c a r refl) in
     (g.0.0, g.0.1)
@@ -121,10 +122,10 @@ module _ (w : Way) (ws : List ℕ) (n : ℕ) (s : List ℤ) (B : ℕ) (pB : 0 < 
 
   leaf_in : (k : ℕ) (r : ℤ) (c : ℕ) (x : Scanned) → bits_of w ws n B 0 k r ≡ x → Only (In n B 0 k) (in_leaf w ws n s B x c).answer
   unfolding over
-  leaf_in k r c (Hit j) e =
+  leaf_in k r c (Break j) e =
       let h = hit_in w (bit_at ws) (start_of n B 0 (suc k) - start_of n B 0 k) (start_of n B 0 k) r j e in
       (h.0, omega (arith, h.1, start_mono n B pB 0 k))
-  leaf_in k r c (Left q) e = tt
+  leaf_in k r c (Continue q) e = tt
 
   down_in : (h k : ℕ) (r : ℤ) (c : ℕ) → k < m → Place (top n B) h k → Only (In n B h k) (down h k r c)
   unfolding descend
@@ -180,7 +181,7 @@ module _ (ws : List ℕ) (n : ℕ) (s : List ℤ) (B : ℕ) (pB : 0 < B) (i : �
   Past w j = Before w i j × (j < n)
 
   -- a hit in the start block
-  start_hit : (w : Way) (j : ℕ) → Inside w n i → start_scan w ws n B i r ≡ Hit j → Past w j
+  start_hit : (w : Way) (j : ℕ) → Inside w n i → start_scan w ws n B i r ≡ Break j → Past w j
   start_hit forward j o e =
       let h = hit_in forward (bit_at ws) (min n (((i + 1) / B + 1) * B) - (i + 1)) (i + 1) r j e in
       (omega (arith, h.0), omega (arith, h.1))
@@ -201,8 +202,8 @@ module _ (ws : List ℕ) (n : ℕ) (s : List ℤ) (B : ℕ) (pB : 0 < B) (i : �
 
   module _ (w : Way) where
     from_start : ends_at_once w n i ≡ false → (x : Scanned) → start_scan w ws n B i r ≡ x → Only (Past w) (in_start w ws n s B (start_block w B i) x).answer
-    from_start e (Hit j) h = start_hit w j (inside w n i e) h
-    from_start e (Left q) h =
+    from_start e (Break j) h = start_hit w j (inside w n i e) h
+    from_start e (Continue q) h =
         let o = inside w n i e in
         let b = start_block w B i in
         let k = inner n B + b in

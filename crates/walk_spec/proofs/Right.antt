@@ -31,8 +31,8 @@ use Rattle.row.specs.Excess.{E}
 use Rattle.row.specs.Search.{fwd, bwd}
 use Rattle.row.specs.Way.{Way, forward, backward}
 use Rattle.row.proofs.Meaning.{Ahead, Behind, nearest_ext, fwd_is, fwd_only, bwd_is, bwd_only, bwd_past}
-use Rattle.bits_stretch.specs.declared.bits.Scanned.{Scanned}
-use Rattle.bits_stretch.specs.declared.bits.Scanned.TheVariants.{Hit, Left}
+use Rattle.bits_stretch.specs.Scan.{Scanned}
+use Rattle.std.specs.declared.ops.ControlFlow.TheVariants.{Break, Continue}
 use Rattle.bits_stretch.specs.Scan.{passed, scan}
 use Rattle.bits_stretch.proofs.Parts.{scan_onward}
 use Rattle.bits_stretch.proofs.Meets.{hit_answer, scan_nearest, scan_leaves}
@@ -41,10 +41,11 @@ use Rattle.mmt_layout.specs.declared.Layout.{Layout}
 use Rattle.mmt_layout.specs.Layout.{leaves, inner, count}
 use Rattle.mmt_node.specs.Nodes.{node_at, AsBuilt}
 use Rattle.mmt_layout.proofs.Powers.{leaves_in, leaves_out, inner_top, inner_room}
-use Rattle.mmt_layout.proofs.Admitted.{layout_none}
+use Rattle.mmt_layout.proofs.Gates.{layout_none}
 use Rattle.mmt_layout.proofs.Places.{count_is, place_of}
 use Rattle.mmt_node.proofs.Covered.{top}
-use Rattle.walk_spec.specs.Walk.{holds_on, far, ends_at_once, start_block, start_scan, in_start, walk}
+use Rattle.bits_stretch.specs.Summary.{holds_on}
+use Rattle.walk_spec.specs.Walk.{far, ends_at_once, start_block, start_scan, in_start, walk}
 use Rattle.walk_spec.proofs.Told.{here, past}
 use Rattle.walk_spec.proofs.Stretches.{over, over_none, over_split, rest_of, block_place, block_start, block_end}
 use Rattle.walk_spec.proofs.Built.{node_told, up}
@@ -131,7 +132,7 @@ module _ (n B : ℕ) (pB : 0 < B) where
   start_in backward i h = block_of (i - 1) (omega arith)
 
   -- the scan of the start block never leaves the remainder 0, whatever the bits are
-  pub start_leaves : (w : Way) (ws : List ℕ) (i : ℕ) (r q : ℤ) → ends_at_once w n i ≡ false → start_scan w ws n B i r ≡ Left q → q ≡ pos 0 → ⊥
+  pub start_leaves : (w : Way) (ws : List ℕ) (i : ℕ) (r q : ℤ) → ends_at_once w n i ≡ false → start_scan w ws n B i r ≡ Continue q → q ≡ pos 0 → ⊥
   start_leaves forward ws i r q h =
       let l = inside forward n i h in
       scan_leaves (bit_at ws) forward (min n (((i + 1) / B + 1) * B) - (i + 1)) (i + 1) r q (λ e z. omega (arith, high (i + 1)))
@@ -165,8 +166,8 @@ module _ (ws : List ℕ) (n : ℕ) (s : List ℤ) (B : ℕ) (pB : 0 < B) (short 
   module _ (w : Way) (i : ℕ) (r : ℤ) where
     from_start : ends_at_once w n i ≡ false → (x : Scanned) → start_scan w ws n B i r ≡ x
         → (in_start w ws n s B (start_block w B i) x).answer ≡ hit_answer (scan_onward x (rest_of w ws n B 0 (inner n B + start_block w B i)))
-    from_start h (Hit j) e = refl
-    from_start h (Left q) e =
+    from_start h (Break j) e = refl
+    from_start h (Continue q) e =
         let b = start_block w B i in
         let l = start_in n B pB w i (inside w n i h) in
         let some : 0 < n = omega (arith, leaves_in n B pB b l) in

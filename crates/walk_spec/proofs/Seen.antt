@@ -13,23 +13,24 @@ use lib.Dec.{leb, eqb}
 use lib.IntN.{ℤ}
 use Rattle.row.specs.Bits.{bit_at}
 use Rattle.row.specs.Way.{Way}
-use Rattle.bits_stretch.specs.declared.bits.Scanned.{Scanned}
-use Rattle.bits_stretch.specs.declared.bits.Scanned.TheVariants.{Hit, Left}
+use Rattle.bits_stretch.specs.Scan.{Scanned}
+use Rattle.std.specs.declared.ops.ControlFlow.TheVariants.{Break, Continue}
 use Rattle.bits_stretch.specs.Scan.{passed, scan}
 use Rattle.mmt_layout.specs.Layout.{leaves, inner, count}
 use Rattle.mmt_node.specs.Nodes.{node_at}
 use Rattle.mmt_layout.proofs.Powers.{levels_least, leaves_in}
 use Rattle.mmt_layout.proofs.Places.{Place, place_up}
 use Rattle.mmt_node.proofs.Covered.{top}
-use Rattle.walk_spec.specs.Walk.{fits, holds_on, Climb, last_sibling, sibling_beyond, climb, Descent, nearer, farther, descend, far, ends_at_once, start_block, start_scan, Walk, in_leaf, land, after_climb, in_start, walk}
+use Rattle.bits_stretch.specs.Summary.{holds_on}
+use Rattle.walk_spec.specs.Walk.{fits, Climb, last_sibling, sibling_beyond, climb, Descent, nearer, farther, descend, far, ends_at_once, start_block, start_scan, Walk, in_leaf, land, after_climb, in_start, walk}
 use Rattle.walk_spec.proofs.Ways.{chosen, either}
 use Rattle.walk_spec.proofs.Stretches.{block_place}
 use Rattle.walk_spec.proofs.Right.{inside, start_in}
 
 module _ (w : Way) (ws : List ℕ) (n : ℕ) (s : List ℤ) (B : ℕ) where
   leaf_seen : (x : Scanned) (c : ℕ) → (in_leaf w ws n s B x c).seen ≤ c
-  leaf_seen (Hit j) c = omega arith
-  leaf_seen (Left q) c = omega arith
+  leaf_seen (Break j) c = omega arith
+  leaf_seen (Continue q) c = omega arith
 
   abbrev m : ℕ
   m = count n B
@@ -63,8 +64,8 @@ module _ (w : Way) (ws : List ℕ) (n : ℕ) (s : List ℤ) (B : ℕ) where
 
   module _ (pB : 0 < B) (h : ℕ) (some : 0 < h) (room : leaves n B ≤ 2 ^ h) (i : ℕ) (r : ℤ) where
     start_seen : ends_at_once w n i ≡ false → (x : Scanned) → (in_start w ws n s B (start_block w B i) x).seen ≤ 3 * h - 2
-    start_seen e (Hit j) = omega arith
-    start_seen e (Left q) =
+    start_seen e (Break j) = omega arith
+    start_seen e (Continue q) =
         let b = start_block w B i in
         let l = start_in n B pB w i (inside w n i e) in
         let p = block_place ws n B pB (omega (arith, leaves_in n B pB b l)) b l in

@@ -20,7 +20,8 @@ use Rattle.row.specs.Way.{Way}
 use Rattle.bits_stretch.specs.declared.summary.Summary.{Summary}
 use Rattle.bits_stretch.specs.Scan.{passed}
 use Rattle.mmt_node.specs.Nodes.{node_at}
-use Rattle.walk_spec.specs.Walk.{fits, holds_on, examine, Climb, turn, out, misfit, last_sibling, sibling_beyond, climb, Descent, leaf, lost, nearer, farther, descend}
+use Rattle.bits_stretch.specs.Summary.{holds_on}
+use Rattle.walk_spec.specs.Walk.{fits, examine, Climb, turn, out, misfit, last_sibling, sibling_beyond, climb, Descent, leaf, lost, nearer, farther, descend}
 
 module _ (w : Way) (m : ℕ) (s : List ℤ) where
   -- ---- the climb

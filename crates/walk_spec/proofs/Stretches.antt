@@ -22,8 +22,8 @@ use lib.IntN.{ℤ}
 use lib.Pow.{pow_mono}
 use Rattle.row.specs.Bits.{bit_at}
 use Rattle.row.specs.Way.{Way, forward, backward}
-use Rattle.bits_stretch.specs.declared.bits.Scanned.{Scanned}
-use Rattle.bits_stretch.specs.declared.bits.Scanned.TheVariants.{Left}
+use Rattle.bits_stretch.specs.Scan.{Scanned}
+use Rattle.std.specs.declared.ops.ControlFlow.TheVariants.{Continue}
 use Rattle.bits_stretch.specs.Scan.{scan}
 use Rattle.bits_stretch.proofs.Parts.{scan_onward, scan_split}
 use Rattle.mmt_layout.specs.Layout.{leaves, inner_for, inner, count}
@@ -42,7 +42,7 @@ in_turn forward x y r = scan_onward (x r) y
 in_turn backward x y r = scan_onward (y r) x
 
 module _ (f : ℕ → ℕ) where
-  pub over_none : (w : Way) (a t : ℕ) (r : ℤ) → t ≤ a → over w f a t r ≡ Left r
+  pub over_none : (w : Way) (a t : ℕ) (r : ℤ) → t ≤ a → over w f a t r ≡ Continue r
   unfolding over scan
   over_none w a t r h = let e : t - a ≡ 0 = omega arith in rw e
 
@@ -113,7 +113,7 @@ module _ (ws : List ℕ) (n B : ℕ) (pB : 0 < B) where
       let m = pow_mono {i = h} {j = top n B} (omega (arith, p.sum)) in
       (omega (arith, inner_top (leaves n B)), omega (arith, inner_top (leaves n B)))
 
-  pub rest_root : (w : Way) (h k : ℕ) (r : ℤ) → k ≡ 0 → Place (top n B) h k → rest_of w ws n B h k r ≡ Left r
+  pub rest_root : (w : Way) (h k : ℕ) (r : ℤ) → k ≡ 0 → Place (top n B) h k → rest_of w ws n B h k r ≡ Continue r
   unfolding start_of block_at
   rest_root forward h k r z p =
       let x = root_reach h k z p in

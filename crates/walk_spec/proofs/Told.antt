@@ -19,14 +19,15 @@ use Rattle.ints.proofs.Order.{le_test}
 use Rattle.row.specs.Way.{Way, forward, backward}
 use Rattle.row.proofs.Bools.{and_both}
 use Rattle.bits_stretch.specs.declared.summary.Summary.{Summary}
-use Rattle.bits_stretch.specs.declared.bits.Scanned.{Scanned}
-use Rattle.bits_stretch.specs.declared.bits.Scanned.TheVariants.{Hit, Left}
+use Rattle.bits_stretch.specs.Scan.{Scanned}
+use Rattle.std.specs.declared.ops.ControlFlow.TheVariants.{Break, Continue}
 use Rattle.bits_stretch.specs.Summary.{none, summary_of, holds_for}
 use Rattle.bits_stretch.specs.Scan.{passed, scan}
 use Rattle.bits_stretch.proofs.Full.{summary_size}
 use Rattle.bits_stretch.proofs.Meets.{scan_none, scan_leaves}
 use Rattle.bits_stretch.proofs.Covers.{summary_total, holds_low, holds_top, back_zero, back_cases, skip_forward, skip_backward, hold_forward, hold_backward}
-use Rattle.walk_spec.specs.Walk.{in_range, fits, holds_on}
+use Rattle.bits_stretch.specs.Summary.{holds_on}
+use Rattle.walk_spec.specs.Walk.{in_range, fits}
 
 near_yes : (z : ℤ) → size z ≤ max_bits → in_range z ≡ true
 unfolding in_range
@@ -49,10 +50,10 @@ none_holds backward r h =
 
 -- x is the summary of some bits, and y is the result of their scan with the remainder r
 pub data Told (w : Way) (r : ℤ) (x : Summary) (y : Scanned) : Type 0 where
-  here : (j : ℕ) → y ≡ Hit j → holds_on w x r ≡ true → Told w r x y
-  past : y ≡ Left (passed w r x.total) → holds_on w x r ≡ false → (passed w r x.total ≡ pos 0 → ⊥) → Told w r x y
+  here : (j : ℕ) → y ≡ Break j → holds_on w x r ≡ true → Told w r x y
+  past : y ≡ Continue (passed w r x.total) → holds_on w x r ≡ false → (passed w r x.total ≡ pos 0 → ⊥) → Told w r x y
 
-pub told_hit : {w : Way} {r : ℤ} {x : Summary} {y : Scanned} (j : ℕ) → Told w r x y → y ≡ Hit j → holds_on w x r ≡ true
+pub told_hit : {w : Way} {r : ℤ} {x : Summary} {y : Scanned} (j : ℕ) → Told w r x y → y ≡ Break j → holds_on w x r ≡ true
 told_hit j (here i b t) e = t
 told_hit j (past b t z) e = let o : ◌≡◌ {A = ℕ} 0 1 = cc in absurd (omega arith)
 
@@ -68,12 +69,12 @@ module _ (f : ℕ → ℕ) (a : ℕ) where
       let s = summary_size f a c in
       rw (near_yes x.total (omega arith), near_yes x.least (omega arith), near_yes x.greatest (omega arith))
 
-  pass : (w : Way) (c : ℕ) (r : ℤ) → holds_on w (summary_of f a c) r ≡ false → scan w f c a r ≡ Left (passed w r (summary_of f a c).total)
+  pass : (w : Way) (c : ℕ) (r : ℤ) → holds_on w (summary_of f a c) r ≡ false → scan w f c a r ≡ Continue (passed w r (summary_of f a c).total)
   pass w zero r h = rw summary_total (scan_none f w 0 a r (λ k p q m. omega arith))
   pass forward (suc c) r h = skip_forward f (suc c) a (omega arith) r h
   pass backward (suc c) r h = skip_backward f (suc c) a (omega arith) r h
 
-  hold : (w : Way) (c : ℕ) (r : ℤ) → (r ≡ pos 0 → ⊥) → holds_on w (summary_of f a c) r ≡ true → (j : ℕ) × (scan w f c a r ≡ Hit j)
+  hold : (w : Way) (c : ℕ) (r : ℤ) → (r ≡ pos 0 → ⊥) → holds_on w (summary_of f a c) r ≡ true → (j : ℕ) × (scan w f c a r ≡ Break j)
   unfolding summary_of
   hold w zero r n h = absurd (n (none_holds w r h))
   hold forward (suc c) r n h = hold_forward f (suc c) a (omega arith) r h

@@ -2,7 +2,7 @@
 -- A walk gives an answer and the number of examined nodes. One definition covers both directions: the direction is a parameter.
 -- In this crate a node is a min-max node, and its height is its distance from the block leaves.
 -- Assumes nothing.
-use Rattle.std.specs.Prelude.{Bool, cond, ◌&&◌, ◌||◌, List, ℕ, zero, suc, ◌+◌, ◌-◌, ◌*◌, ◌/◌, ◌%◌, min, ltb, leb, eqb, ℤ, pos, ◌+ℤ◌, neg_ℤ}
+use Rattle.std.specs.Prelude.{Bool, cond, ◌&&◌, ◌||◌, List, ℕ, zero, suc, ◌+◌, ◌-◌, ◌*◌, ◌/◌, ◌%◌, min, ltb, leb, eqb, ℤ, pos, neg_ℤ}
 use Rattle.std.specs.Int.Signed.{le_z}
 use Rattle.row.specs.Limits.{max_bits}
 use Rattle.ints.specs.Sides.{size}
@@ -10,10 +10,9 @@ use Rattle.row.specs.Answer.{Answer, at, nothing, refused}
 use Rattle.row.specs.Bits.{bit_at}
 use Rattle.row.specs.Way.{Way, forward, backward}
 use Rattle.bits_stretch.specs.declared.summary.Summary.{Summary}
-use Rattle.bits_stretch.specs.declared.bits.Scanned.{Scanned}
-use Rattle.bits_stretch.specs.declared.bits.Scanned.TheVariants.{Hit, Left}
-use Rattle.bits_stretch.specs.Summary.{holds_for, holds_back}
-use Rattle.bits_stretch.specs.Scan.{passed, scan}
+use Rattle.std.specs.declared.ops.ControlFlow.TheVariants.{Break, Continue}
+use Rattle.bits_stretch.specs.Summary.{holds_on}
+use Rattle.bits_stretch.specs.Scan.{Scanned, passed, scan}
 use Rattle.mmt_layout.specs.Layout.{inner, count}
 use Rattle.mmt_node.specs.Nodes.{node_at}
 
@@ -26,12 +25,6 @@ in_range z = le_z (neg_ℤ (pos max_bits)) z && le_z z (pos max_bits)
 -- All three entries are in range, whether they are used or not.
 unfoldable pub fits : Summary → Bool
 fits x = in_range x.total && in_range x.least && in_range x.greatest
-
--- A node qualifies for the remainder r: forward if least <= r <= greatest; backward, with s = r + total, if s = 0 or
--- least <= s <= greatest.
-abbrev pub holds_on : Way → Summary → ℤ → Bool
-holds_on forward x r = holds_for x r
-holds_on backward x r = holds_back x (r +ℤ x.total)
 
 -- Examining a node gives `bad` if an entry is out of range and `here` if the node qualifies for r.
 -- Otherwise the walk passes the node and gets `past` with the remainder after it.
@@ -131,8 +124,8 @@ start_scan backward ws n B i r = scan backward (bit_at ws) (i - (i - 1) / B * B)
 module _ (w : Way) (ws : List ℕ) (n : ℕ) (s : List ℤ) (B : ℕ) where
   -- A hit in the target block is the answer. Without one the search is refused by 8.
   abbrev pub in_leaf : Scanned → ℕ → Walk
-  in_leaf (Hit j) c = found (at j) c
-  in_leaf (Left q) c = found (refused 8) 0
+  in_leaf (Break j) c = found (at j) c
+  in_leaf (Continue q) c = found (refused 8) 0
 
   -- After the descent: the scan of the target block, or refusal 8.
   abbrev pub land : Descent → Walk
@@ -151,8 +144,8 @@ module _ (w : Way) (ws : List ℕ) (n : ℕ) (s : List ℤ) (B : ℕ) where
 
   -- A hit in the start block b is the answer. Without one the walk goes on with the remainder that is left.
   abbrev pub in_start : ℕ → Scanned → Walk
-  in_start b (Hit j) = found (at j) 0
-  in_start b (Left q) = beyond b q
+  in_start b (Break j) = found (at j) 0
+  in_start b (Continue q) = beyond b q
 
   -- The walk of a search from position i for the difference r.
   unfoldable pub walk : ℕ → ℤ → Walk

@@ -1,5 +1,4 @@
 -- The slices that are passed to a call are those that a promise over bytes names.
---   decoded_length: the slice that is passed on has as many elements as were decoded
 --   same: a function gives equal results for equal words, bit counts and numbers
 --   decoded_few: the slice that is passed on has as many elements as the list that the promise names
 -- Assumes nothing.
@@ -10,10 +9,6 @@ use lib.ListN.{length, take}
 use lib.Seq.{length-take-le}
 use Rattle.wire.specs.Bytes.{tabulate}
 use Rattle.wire.proofs.Runs.{length_made}
-
--- The slice that is passed on has as many elements as were decoded.
-pub decoded_length : {A : Type 0} (g : ℕ → A) (l : List A) (c : ℕ) → take c l ≡ tabulate g 0 c → c ≡ length (take c l)
-decoded_length g l c e = sym (ap length e ∙ length_made g 0 c)
 
 pub same : {A B C D : Type 0} (f : A → B → C → D) {a x : A} {b y : B} {c z : C} → a ≡ x → b ≡ y → c ≡ z → f a b c ≡ f x y z
 same f {a = a} {x = x} {b = b} {y = y} {c = c} p q r = ap (λ v. f v b c) p ∙ ap (λ v. f x v c) q ∙ ap (λ v. f x y v) r

@@ -1,4 +1,2 @@
-mod Twos
-mod Numbers
 pub mod Runs
 pub mod Decoded

@@ -1,28 +1,26 @@
--- Laws of lists of words and signed numbers in a byte slice.
+-- Laws of lists of values in a byte slice, each in eight bytes.
 --   length_made: `tabulate g i c` has c elements
 --   made_at: element j of `tabulate g i c` is `g (i + j)`
 --   Each: the claim that the elements 0 to c - 1 of a list are g 0 to g (c - 1)
 --   more: storing `g i` as element i extends this claim from i to i + 1
 --   each_made: a list of c elements that satisfies the claim for c is `tabulate g 0 c`
---   prefix_fits: for a prefix of the length that `fit` gives, there are enough bytes
---   prefix_made: once such a prefix is filled, it is the first c elements of the whole slice
---   length_bytes: k words are 8k bytes
---   bytes_append: the bytes of two lists of words follow one another
---   over_none: with no word written the bytes are unchanged
---   over_next: writing word i turns i written words into i + 1
---   over_more: over_next for bytes and a word that are given by equations
---   over_all: with all words written the bytes are those of the definition
---   get_d_map: element i of a mapped list is the image of element i
+--   all_made: the same for a list that may be empty
+--   first_at, chunk_at: chunk i of eight bytes begins at byte 8i
+--   length_bytes: k values are 8k bytes
+--   bytes_append: the bytes of two lists of values follow one another
+--   over_none: with no value written the bytes are unchanged
+--   over_next: writing value i turns i written values into i + 1
 -- Assumes nothing.
 use mathlib.Core.Path.{◌≡◌, refl, sym, ap, ◌∙◌}
-use mathlib.Core.List.{List, [], ◌∷◌, ◌++◌, map, append_assoc}
-use Prim.Native.Nat.{ℕ, zero, suc, ◌+◌, ◌*◌, ◌≤◌, ◌<◌}
+use mathlib.Core.List.{List, [], ◌∷◌, ◌++◌, append_assoc}
+use Prim.Native.Nat.{ℕ, zero, suc, ◌+◌, ◌*◌, ◌<◌}
 use native.Mathlib.Omega.{arith}
 use lib.ListN.{length, get_or, set, take, drop, length-append}
-use lib.Seq.{length-take-le, take-length, take-suc, get_or-set_same, get_or-set_other, ext_get_or, take_at, drop_at, drop-drop}
+use Rattle.std.proofs.lemmas.List.{take_more, append-nil}
+use lib.Seq.{length-take-le, get_or-set_same, get_or-set_other, ext_get_or, take_at, drop_at, drop-drop}
 use borrow.Author.Count.{below_more}
-use Rattle.wire.specs.Limit.{fit}
-use Rattle.wire.specs.Bytes.{tabulate, eight, put_at, bytes_of, words_over}
+use Rattle.std.specs.Simd.{first_chunks}
+use Rattle.wire.specs.Bytes.{tabulate, bytes_of, values_over}
 
 -- ---- lists made by a rule
 module _ {A : Type 0} where
@@ -50,62 +48,54 @@ module _ {A : Type 0} where
       ext_get_or d a (tabulate g 0 c) (e ∙ sym (length_made g 0 c))
       (λ j l. f j (omega arith) ∙ ap g (omega arith) ∙ sym (made_at g d 0 c j (omega arith)))
 
--- The first c elements of z are passed on as a slice. There are enough bytes to decode them.
-pub prefix_fits : {A : Type 0} (m : ℕ) (z : List A) (c : ℕ) → c ≡ fit m (length z) → 8 * length (take c z) ≤ m
-prefix_fits m z c e = let h : c ≤ length z = omega arith in rw (length-take-le c z h) (omega arith)
+  -- The same if the list may be empty, so that there may be no d.
+  pub all_made : (a : List A) (g : ℕ → A) (c : ℕ) → length a ≡ c → ((d : A) → Each a d g c) → a ≡ tabulate g 0 c
+  unfolding tabulate
+  all_made [] g c e f = rw (← e) refl
+  all_made (x ∷ xs) g c e f = each_made (x ∷ xs) x g c e (f x)
 
--- That slice comes back as l, followed by the other elements r.
-pub prefix_made : {A : Type 0} (g : ℕ → A) (z l r : List A) (c : ℕ) → c ≤ length z → l ≡ tabulate g 0 (length (take c z))
-    → take c (l ++ r) ≡ tabulate g 0 c
-prefix_made g z l r c h e =
-    let t : length (take c z) ≡ c = length-take-le c z h in
-    let q : l ≡ tabulate g 0 c = e ∙ ap (tabulate g 0) t in
-    take_at l r c (ap length q ∙ length_made g 0 c) ∙ q
+-- ---- chunks of eight bytes
+first_at : {A : Type 0} (d : List A) (k : ℕ) (s : List A) (i : ℕ) → i < k → get_or (first_chunks 8 k s) i d ≡ take 8 (drop (8 * i) s)
+first_at d zero s i h = absurd (omega arith)
+first_at d (suc k) s zero h = refl
+first_at d (suc k) s (suc i) h =
+    let e : 8 + 8 * i ≡ 8 * suc i = omega arith in
+    first_at d k (drop 8 s) i (omega arith) ∙ ap (take 8) (drop-drop (8 * i) 8 s ∙ ap (λ j. drop j s) e)
 
--- ---- words written as bytes
-length_bytes : (ws : List ℕ) → length (bytes_of ws) ≡ 8 * length ws
-unfolding bytes_of
-length_bytes [] = refl
-length_bytes (w ∷ ws) = let e = length_bytes ws in length-append (eight w) (bytes_of ws) ∙ omega arith
+pub chunk_at : {A : Type 0} (d : List A) (k : ℕ) (s : List A) (i : ℕ) (c : List (List A)) → i < k → c ≡ first_chunks 8 k s
+    → get_or c i d ≡ take 8 (drop (8 * i) s)
+chunk_at d k s i c h e = rw e (first_at d k s i h)
 
-bytes_append : (xs ys : List ℕ) → bytes_of (xs ++ ys) ≡ bytes_of xs ++ bytes_of ys
-unfolding bytes_of
-bytes_append [] ys = refl
-bytes_append (x ∷ xs) ys = ap (λ r. eight x ++ r) (bytes_append xs ys) ∙ sym (append_assoc (eight x) (bytes_of xs) (bytes_of ys))
+-- ---- values written as bytes
+module _ {A : Type 0} (bytes : A → List ℕ) (long : (x : A) → length (bytes x) ≡ 8) where
+  length_bytes : (xs : List A) → length (bytes_of bytes xs) ≡ 8 * length xs
+  unfolding bytes_of
+  length_bytes [] = refl
+  length_bytes (x ∷ xs) = let e = length_bytes xs in let f = long x in length-append (bytes x) (bytes_of bytes xs) ∙ omega arith
 
-pub over_none : (ws s : List ℕ) → s ≡ words_over (take 0 ws) s
-unfolding bytes_of
-over_none ws s = refl
+  bytes_append : (xs ys : List A) → bytes_of bytes (xs ++ ys) ≡ bytes_of bytes xs ++ bytes_of bytes ys
+  unfolding bytes_of
+  bytes_append [] ys = refl
+  bytes_append (x ∷ xs) ys =
+      ap (λ r. bytes x ++ r) (bytes_append xs ys) ∙ sym (append_assoc (bytes x) (bytes_of bytes xs) (bytes_of bytes ys))
 
-over_next : (ws s : List ℕ) (i : ℕ) → i < length ws
-    → put_at (words_over (take i ws) s) (8 * i) (get_or ws i 0) ≡ words_over (take (i + 1) ws) s
-unfolding bytes_of
-over_next ws s i h =
-    let w = get_or ws i 0 in
-    let p = bytes_of (take i ws) in
-    let q = drop (8 * length (take i ws)) s in
-    let t : length (take i ws) ≡ i = length-take-le i ws (omega arith) in
-    let l : length p ≡ 8 * i = length_bytes (take i ws) ∙ ap (λ k. 8 * k) t in
-    let u : length (take (i + 1) ws) ≡ i + 1 = length-take-le (i + 1) ws (omega arith) in
-    let a : take (8 * i) (p ++ q) ≡ p = take_at p q (8 * i) l in
-    let n : 8 * length (take i ws) + 8 ≡ 8 * length (take (i + 1) ws) = omega arith in
-    let v : i + 1 ≡ suc i = omega arith in
-    let d : drop (8 * i + 8) (p ++ q) ≡ drop 8 q = sym (drop-drop 8 (8 * i) (p ++ q)) ∙ ap (drop 8) (drop_at p q (8 * i) l) in
-    let r : drop 8 q ≡ drop (8 * length (take (i + 1) ws)) s = drop-drop 8 (8 * length (take i ws)) s ∙ ap (λ k. drop k s) n in
-    let e : take (i + 1) ws ≡ take i ws ++ (w ∷ []) = ap (λ k. take k ws) v ∙ take-suc ws i 0 h in
-    let f : bytes_of (take (i + 1) ws) ≡ p ++ eight w = ap bytes_of e ∙ bytes_append (take i ws) (w ∷ []) in
-    ap (λ x. x ++ eight w ++ drop (8 * i + 8) (p ++ q)) a ∙ ap (λ x. p ++ eight w ++ x) (d ∙ r)
-    ∙ ap (λ x. x ++ drop (8 * length (take (i + 1) ws)) s) (sym f)
+  pub over_none : (xs : List A) (s : List ℕ) → s ≡ values_over bytes (take 0 xs) s
+  unfolding bytes_of
+  over_none xs s = refl
 
-pub over_more : (ws s b : List ℕ) (i w : ℕ) → i < length ws → b ≡ words_over (take i ws) s → w ≡ get_or ws i 0
-    → put_at b (8 * i) w ≡ words_over (take (i + 1) ws) s
-over_more ws s b i w h e f = ap (λ x. put_at x (8 * i) w) e ∙ ap (put_at (words_over (take i ws) s) (8 * i)) f ∙ over_next ws s i h
-
-pub over_all : (ws s : List ℕ) (i : ℕ) → i ≡ length ws → words_over (take i ws) s ≡ words_over ws s
-over_all ws s i e = ap (λ x. words_over x s) (ap (λ k. take k ws) e ∙ take-length ws)
-
--- ---- signed numbers as words
-pub get_d_map : {A B : Type 0} (f : A → B) (l : List A) (i : ℕ) (d : A) (e : B) → i < length l → get_or (map f l) i e ≡ f (get_or l i d)
-get_d_map f [] i d e h = absurd (omega arith)
-get_d_map f (x ∷ l) zero d e h = refl
-get_d_map f (x ∷ l) (suc i) d e h = get_d_map f l i d e (omega arith)
+  -- Value i is written into the eight bytes from 8i on.
+  pub over_next : (xs : List A) (d : A) (s b v : List ℕ) (i k : ℕ) → i < length xs → k ≡ 8 → b ≡ values_over bytes (take i xs) s → v ≡ bytes (get_or xs i d)
+      → take (8 * i) b ++ (v ++ drop k (drop (8 * i) b)) ≡ values_over bytes (take (i + 1) xs) s
+  unfolding bytes_of
+  over_next xs d s b v i k h e₈ eb ev =
+      let x = get_or xs i d in
+      let p = bytes_of bytes (take i xs) in
+      let q = drop (8 * length (take i xs)) s in
+      let t : length (take i xs) ≡ i = length-take-le i xs (omega arith) in
+      let l : length p ≡ 8 * i = length_bytes (take i xs) ∙ ap (λ k. 8 * k) t in
+      let u : length (take (i + 1) xs) ≡ i + 1 = length-take-le (i + 1) xs (omega arith) in
+      let n : 8 * length (take i xs) + 8 ≡ 8 * length (take (i + 1) xs) = omega arith in
+      let r : drop 8 q ≡ drop (8 * length (take (i + 1) xs)) s = drop-drop 8 (8 * length (take i xs)) s ∙ ap (λ k. drop k s) n in
+      let f : bytes_of bytes (take (i + 1) xs) ≡ p ++ bytes x =
+      ap (bytes_of bytes) (take_more xs i d h) ∙ bytes_append (take i xs) (x ∷ []) ∙ ap (λ y. p ++ y) (append-nil (bytes x)) in
+      rw (eb, ev, e₈, f, take_at p q (8 * i) l, drop_at p q (8 * i) l, r) (sym (append_assoc p (bytes x) (drop (8 * length (take (i + 1) xs)) s)))

@@ -26,5 +26,5 @@ pub fn bits(bits: u64) -> usize
 pub fn fitting(bytes: usize, room: usize) -> usize
     ensures { result ≡ fit bytes room }
 {
-    row::earlier(bytes / 8, room)
+    (bytes / 8).min(room)
 }

@@ -1,16 +1,13 @@
--- Each arm follows from the answer of the one-tree test.
-use Rattle.std.proofs.Common.{arith}
-use Rattle.app_line.proofs.Line.{tree_yes, tree_no, tree_refused, tree_nothing}
+-- Each way out follows from the answer of the one-tree test.
+use Rattle.std.proofs.Common.{true, false, arith, rules}
+use Rattle.app_line.proofs.Line.{tree_refused, tree_told}
 use Rattle.app_line.proofs.admit_tree.Goals as goal
 
-pub returns-in-Yes : goal.returns-in-Yes
-returns-in-Yes c = record { answer = tree_yes _ _ c.in-Yes.ensures.answer; words = omega arith }
+pub returns-in_err-one_tree : goal.returns-in_err-one_tree
+returns-in_err-one_tree c = record { answer = search (rules, tree_refused); words = omega arith }
 
-pub returns-in-Refused : goal.returns-in-Refused
-returns-in-Refused c = record { answer = tree_refused _ _ _ c.in-Refused.ensures.answer; words = omega arith }
+pub returns-then-eq : goal.returns-then-eq
+returns-then-eq c = record { answer = tree_told _ _ _ true c.if-eq.ensures c.in_ok-one_tree.ensures.answer; words = omega arith }
 
-pub returns-in-No : goal.returns-in-No
-returns-in-No c = record { answer = tree_no _ _ c.in-No.ensures.answer; words = omega arith }
-
-pub returns-in-Nothing : goal.returns-in-Nothing
-returns-in-Nothing c = record { answer = tree_nothing _ _ c.in-Nothing.ensures.answer; words = omega arith }
+pub returns : goal.returns
+returns c = record { answer = tree_told _ _ _ false c.if-eq.ensures c.in_ok-one_tree.ensures.answer; words = omega arith }

@@ -1,18 +1,10 @@
--- `bp_search::bwd_search` tests refusals 1 to 4 and then answers what the backward walk finds.
--- The proof has one case for a refusal and one for the walk. Assumes nothing.
-use mathlib.Core.Path.{sym, ◌∙◌}
+-- `bp_search::bwd_search` tests refusals 1 to 4 and then answers what the backward walk finds. Assumes nothing.
 use mir.Syntax.{w64}
 use mir.ValLaws.{to_z-of_z}
-use Rattle.row.specs.Way.{backward}
-use Rattle.mmt_layout.proofs.Admitted.{gate_fine}
-use Rattle.bp_spec.proofs.SearchAnswers.{when_refused, when_backward}
+use Rattle.bp_spec.proofs.SearchAnswers.{bwd_ok}
 use Rattle.bp_search.proofs.bwd_search.Goals as goal
 
-pub walk_bwd-requires : goal.walk_bwd-requires
-walk_bwd-requires c = gate_fine _ _ _ _ (sym c.admit.ensures ∙ c.in-Pass.is)
-
-pub returns-in-Refuse : goal.returns-in-Refuse
-returns-in-Refuse c = when_refused _ _ _ _ _ _ backward _ c.in-Refuse.k (sym c.admit.ensures ∙ c.in-Refuse.is)
-
-pub returns-in-Pass : goal.returns-in-Pass
-returns-in-Pass c = when_backward _ _ _ _ _ _ _ (sym c.admit.ensures ∙ c.in-Pass.is) (rw (to_z-of_z w64 _ c.ranges.r) at c.walk_bwd.ensures)
+pub returns : goal.returns
+returns c =
+    let g = c.new.ensures in
+    bwd_ok _ _ _ _ _ _ g.gate g.parts c.in_ok-new.was (rw (to_z-of_z w64 _ c.ranges.r) at c.walk.ensures)

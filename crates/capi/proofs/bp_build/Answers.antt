@@ -20,7 +20,7 @@ pub returns : goal.returns
 returns c =
     -- p: the decoded words; q: the bit count; r: the room for node numbers
     let a = c.args in
-    let w = c.take_words-w.ensures in
+    let w = c.take-w.ensures in
     let m = c.fitting-m in
     let h : m.result ≤ number_room = omega (arith, m.ensures) in
     let e = c.build.ensures in

@@ -4,7 +4,7 @@ use Prim.Native.Nat.{◌+◌}
 use native.Mathlib.Omega.{arith}
 use Rattle.mmt_layout.specs.declared.Layout.{Layout}
 use Rattle.mmt_layout.specs.Layout.{count}
-use Rattle.mmt_layout.proofs.Admitted.{count_small, room_few, room_passed}
+use Rattle.mmt_layout.proofs.Gates.{count_small, room_few, room_passed}
 use Rattle.mmt_layout.proofs.admit_room.Goals as goal
 
 -- the block leaves and inner nodes of the layout are L + I nodes together

@@ -1,5 +1,4 @@
--- `one_tree::is_body` tests whether least > 0 and total = 1. If the first comparison fails, the result is no; otherwise the second one
--- decides. Assumes nothing.
+-- `one_tree::is_body` tests whether least > 0 and total = 1. If the first comparison holds, the second one decides. Assumes nothing.
 use native.Mathlib.Omega.{arith}
 use lib.IntN.{pos}
 use mir.Syntax.{w64}
@@ -10,13 +9,7 @@ use Rattle.one_tree.proofs.is_body.Goals as goal
 
 pub returns-then-x-gt0 : goal.returns-then-x-gt0
 returns-then-x-gt0 c =
-    let t = c in
-    let x = t.args.x in
+    let x = c.args.x in
     let f : SFits w64 x.least = omega arith in
     let g : SFits w64 x.total = omega arith in
-    rw (rw (to_z-of_z w64 _ f) at t.if-x-gt0.true) (bits_eq_z {b = pos 1} g (omega arith))
-
-pub returns-else-x-gt0 : goal.returns-else-x-gt0
-returns-else-x-gt0 c =
-    let f : SFits w64 c.args.x.least = omega arith in
-    rw (to_z-of_z w64 _ f, rw (to_z-of_z w64 _ f) at c.if-x-gt0.false)
+    rw (rw (to_z-of_z w64 _ f) at c.if-x-gt0.true) (bits_eq_z {b = pos 1} g (omega arith))

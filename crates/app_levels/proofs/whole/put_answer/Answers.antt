@@ -7,24 +7,24 @@ use Rattle.app_levels.proofs.whole.put_answer.Goals as goal
 
 pub put_built-requires : goal.put_built-requires
 put_built-requires c =
-    let i = input_taken c.args.bytes.now blank_words _ c.in-Bits.ensures.answer in
+    let i = input_taken c.args.bytes.now blank_words _ c.in-Ok.ensures.answer in
     rw c.read_tree.ensures.slice i
 
-pub returns-in-Bits : goal.returns-in-Bits
-returns-in-Bits c =
+pub returns-in-Ok : goal.returns-in-Ok
+returns-in-Ok c =
     let s = c.args.bytes.now in
     let page = c.put_built.new.page in
-    let q = printed_tree s _ c.in-Bits.ensures.answer in
+    let q = printed_tree s _ c.in-Ok.ensures.answer in
     let h = rw c.read_tree.ensures.slice at c.put_built.ensures in
     let e : length page ≡ length c.args.page.now = omega arith in
     let l : length (printed s) ≤ length c.args.page.now = omega (arith, printed_fits s) in
     adds_front c.args.page.now page (printed s) _ e l (rw q at h)
 
-pub returns-in-Refused : goal.returns-in-Refused
-returns-in-Refused c =
+pub returns-in-Err : goal.returns-in-Err
+returns-in-Err c =
     let s = c.args.bytes.now in
     let page = c.put_refusal.new.page in
-    let q = printed_refused s _ c.in-Refused.ensures.answer in
+    let q = printed_refused s _ c.in-Err.ensures.answer in
     let e : length page ≡ length c.args.page.now = omega arith in
     let l : length (printed s) ≤ length c.args.page.now = omega (arith, printed_fits s) in
     adds_front c.args.page.now page (printed s) _ e l (rw q at c.put_refusal.ensures)

@@ -1,15 +1,7 @@
--- `bp_family::next_sibling` tests the handle v and then answers what `next_of` answers.
--- The proof has one case for a refusal and one for the answer. Assumes nothing.
-use mathlib.Core.Path.{sym, ◌∙◌}
-use Rattle.bp_spec.proofs.HandleAnswers.{passed_fine, node_refused, node_passed}
+-- `bp_family::next_sibling` tests the handle v and then answers what `next_of` answers. Assumes nothing.
+use Rattle.bp_spec.proofs.HandleAnswers.{node_ok}
 use Rattle.bp_spec.specs.SiblingCalls.{next_sibling}
 use Rattle.bp_family.proofs.sibling.next_sibling.Goals as goal
 
-pub next_of-requires : goal.next_of-requires
-next_of-requires c = passed_fine _ _ _ _ _ (sym c.admit_node.ensures ∙ c.in-Pass.is)
-
-pub returns-in-Refuse : goal.returns-in-Refuse
-returns-in-Refuse c = node_refused _ _ _ _ _ next_sibling c.in-Refuse.k (sym c.admit_node.ensures ∙ c.in-Refuse.is)
-
-pub returns-in-Pass : goal.returns-in-Pass
-returns-in-Pass c = node_passed _ _ _ _ _ next_sibling _ (sym c.admit_node.ensures ∙ c.in-Pass.is) c.next_of.ensures
+pub returns : goal.returns
+returns c = let g = c.admit_node.ensures in node_ok _ _ _ _ _ g.gate next_sibling g.parts c.in_ok-admit_node.was c.next_of.ensures

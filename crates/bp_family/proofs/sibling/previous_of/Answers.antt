@@ -4,15 +4,17 @@ use mathlib.Core.Path.{sym, ◌∙◌}
 use native.Mathlib.Omega.{arith}
 use Rattle.bp_handle.proofs.RowAnswers.{closes_not, closes_in}
 use Rattle.bp_family.proofs.Siblings.{previous_first, previous_none, previous_at}
+use Rattle.bp_family.proofs.sibling.previous_of.Goals.{then-v-eq0-via-then-v-eq0, then-v-eq0-via-else-v-eq0+then-opens_at}
 use Rattle.bp_family.proofs.sibling.previous_of.Goals as goal
 
 pub returns-then-v-eq0 : goal.returns-then-v-eq0
-returns-then-v-eq0 c = previous_first _ _ _ _ (omega arith)
-
-pub returns-then-opens_at : goal.returns-then-opens_at
-returns-then-opens_at c = previous_none _ _ _ _ (omega arith) (closes_not _ _ _ (omega arith) (sym c.opens_at.ensures ∙ c.if-opens_at.true))
+returns-then-v-eq0 c = elim c.then-v-eq0.branch [
+  | then-v-eq0-via-then-v-eq0 w ↦ previous_first _ _ _ _ (omega arith)
+  | then-v-eq0-via-else-v-eq0+then-opens_at w ↦
+      previous_none _ _ _ _ (omega arith) (closes_not _ _ _ (omega arith) (sym w.opens_at.ensures ∙ w.if-opens_at.true))
+]
 
 pub returns : goal.returns
 returns c =
-    c.walk_bwd.ensures
+    c.walk.ensures
     ∙ previous_at _ _ _ _ (omega arith) (closes_in _ _ _ (omega arith) (sym c.opens_at.ensures ∙ c.if-opens_at.false))

@@ -1,16 +1,7 @@
--- `bp_level::level_leftmost` tests refusals 1 to 4 and then answers what `leftmost_at` answers.
--- The proof has one case for a refusal and one for the answer. Assumes nothing.
-use mathlib.Core.Path.{sym, ◌∙◌}
-use Rattle.mmt_layout.proofs.Admitted.{gate_fine}
+-- `bp_level::level_leftmost` tests refusals 1 to 4 and then answers what `leftmost_at` answers. Assumes nothing.
 use Rattle.bp_spec.specs.LevelEnds.{level_leftmost}
-use Rattle.bp_level.proofs.LevelEnds.{level_refused, level_passed}
+use Rattle.bp_level.proofs.LevelEnds.{level_ok}
 use Rattle.bp_level.proofs.ends.level_leftmost.Goals as goal
 
-pub leftmost_at-requires : goal.leftmost_at-requires
-leftmost_at-requires c = gate_fine _ _ _ _ (sym c.admit.ensures ∙ c.in-Pass.is)
-
-pub returns-in-Refuse : goal.returns-in-Refuse
-returns-in-Refuse c = level_refused _ _ _ _ level_leftmost _ c.in-Refuse.e (sym c.admit.ensures ∙ c.in-Refuse.is)
-
-pub returns-in-Pass : goal.returns-in-Pass
-returns-in-Pass c = level_passed _ _ _ _ level_leftmost _ _ (sym c.admit.ensures ∙ c.in-Pass.is) c.leftmost_at.ensures
+pub returns : goal.returns
+returns c = let g = c.new.ensures in level_ok _ _ _ _ _ g.gate level_leftmost g.parts c.in_ok-new.was c.leftmost_at.ensures

@@ -1,15 +1,7 @@
--- `bp_level::level_ancestor` tests the handle v and then answers what `ancestor_at` answers.
--- The proof has one case for a refusal and one for the answer. Assumes nothing.
-use mathlib.Core.Path.{sym, ◌∙◌}
-use Rattle.bp_spec.proofs.HandleAnswers.{passed_fine, node_refused, node_passed}
+-- `bp_level::level_ancestor` tests the handle v and then answers what `ancestor_at` answers. Assumes nothing.
+use Rattle.bp_spec.proofs.HandleAnswers.{node_ok}
 use Rattle.bp_spec.specs.LevelCalls.{level_ancestor}
 use Rattle.bp_level.proofs.from_node.level_ancestor.Goals as goal
 
-pub ancestor_at-requires : goal.ancestor_at-requires
-ancestor_at-requires c = passed_fine _ _ _ _ _ (sym c.admit_node.ensures ∙ c.in-Pass.is)
-
-pub returns-in-Refuse : goal.returns-in-Refuse
-returns-in-Refuse c = node_refused _ _ _ _ _ (level_ancestor c.args.k) c.in-Refuse.e (sym c.admit_node.ensures ∙ c.in-Refuse.is)
-
-pub returns-in-Pass : goal.returns-in-Pass
-returns-in-Pass c = node_passed _ _ _ _ _ (level_ancestor c.args.k) _ (sym c.admit_node.ensures ∙ c.in-Pass.is) c.ancestor_at.ensures
+pub returns : goal.returns
+returns c = let g = c.admit_node.ensures in node_ok _ _ _ _ _ g.gate (level_ancestor c.args.k) g.parts c.in_ok-admit_node.was c.ancestor_at.ensures

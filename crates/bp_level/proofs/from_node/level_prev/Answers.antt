@@ -1,18 +1,8 @@
--- `bp_level::level_prev` tests the handle v and then answers what `open_before` answers for the difference 1.
--- The proof has one case for a refusal and one for the answer. Assumes nothing.
-use mathlib.Core.Path.{sym, ◌∙◌}
-use Rattle.bp_spec.proofs.HandleAnswers.{passed_fine, node_refused, node_passed}
+-- `bp_level::level_prev` tests the handle v and then answers what `open_before` answers for the difference 1. Assumes nothing.
+use Rattle.bp_spec.proofs.HandleAnswers.{node_ok}
 use Rattle.bp_spec.specs.LevelCalls.{level_prev}
-use Rattle.bp_level.proofs.NodeLevels.{prev_is}
 use Rattle.bp_level.proofs.from_node.level_prev.Goals as goal
 
-pub open_before-requires : goal.open_before-requires
-open_before-requires c = passed_fine _ _ _ _ _ (sym c.admit_node.ensures ∙ c.in-Pass.is)
-
-pub returns-in-Refuse : goal.returns-in-Refuse
-returns-in-Refuse c =
-    node_refused _ _ _ _ _ level_prev c.in-Refuse.e
-    (sym c.admit_node.ensures ∙ c.in-Refuse.is)
-
-pub returns-in-Pass : goal.returns-in-Pass
-returns-in-Pass c = node_passed _ _ _ _ _ level_prev _ (sym c.admit_node.ensures ∙ c.in-Pass.is) (c.open_before.ensures ∙ sym (prev_is _ _ _ _))
+pub returns : goal.returns
+unfolding level_prev
+returns c = let g = c.admit_node.ensures in node_ok _ _ _ _ _ g.gate level_prev g.parts c.in_ok-admit_node.was c.open_before.ensures

@@ -14,28 +14,28 @@ use Rattle.c_dispatch.proofs.Reading.{count_passed, read_fits, row_passed}
 use Rattle.c_dispatch.proofs.reader.read_through.Goals as goal
 
 pub words_for-requires : goal.words_for-requires
-words_for-requires c = (read_fits _ _ _ (sym (ap paper_read c.in-Bits.is) ∙ c.read_text.ensures.answer)).0
+words_for-requires c = (read_fits _ _ _ (sym (ap paper_read c.in-Ok.is) ∙ c.read_text.ensures.answer)).0
 
 -- The slice has at least as many words as are written.
 enough : (c : goal.After-words_for) → c.words_for.result ≤ length c.read_text.new.words
 enough c =
-    let f = read_fits _ _ _ (sym (ap paper_read c.in-Bits.is) ∙ c.read_text.ensures.answer) in
+    let f = read_fits _ _ _ (sym (ap paper_read c.in-Ok.is) ∙ c.read_text.ensures.answer) in
     omega (arith, f.1, c.words_for.ensures, c.read_text.auto.words)
 
-pub slice_bounds-write_words-end : goal.slice_bounds-write_words-end
-slice_bounds-write_words-end c = enough c
+pub slice_bounds-write-end : goal.slice_bounds-write-end
+slice_bounds-write-end c = enough c
 
-pub slice_bounds-write_words-end-in-Bits : goal.slice_bounds-write_words-end-in-Bits
-slice_bounds-write_words-end-in-Bits c = sym (length-take-le _ _ (enough c))
+pub slice_bounds-write-end-in-Ok : goal.slice_bounds-write-end-in-Ok
+slice_bounds-write-end-in-Ok c = sym (length-take-le _ _ (enough c))
 
-pub returns-in-Bits : goal.returns-in-Bits
-returns-in-Bits c =
+pub returns-in-Ok : goal.returns-in-Ok
+returns-in-Ok c =
     let a = c.args in
     let b = c.read_text.ensures in
-    let e = sym (ap paper_read c.in-Bits.is) ∙ b.answer in
+    let e = sym (ap paper_read c.in-Ok.is) ∙ b.answer in
     let p = count_passed _ _ _ e in
     let f = (read_fits _ _ _ e).0 in
     record {
       answer = to_z_pos w64 _ (omega arith) ∙ ap wire_of e;
-      slice = c.write_words.ensures ∙ row_passed a.text.now a.words.now a.row.now _ _ p.0 b.slice (c.words_for.ensures ∙ ap words_for p.1);
+      slice = c.write.ensures ∙ row_passed a.text.now a.words.now a.row.now _ _ p.0 b.slice (c.words_for.ensures ∙ ap words_for p.1);
     }

@@ -7,11 +7,11 @@ use Rattle.c_listings.proofs.numbers.to_numbers.Goals as goal
 
 pub overflow_cast-result : goal.overflow_cast-result
 overflow_cast-result c =
-    let l = count_low _ _ _ _ _ _ _ _ c.in-Count.ensures.answer in
+    let l = count_low _ _ _ _ _ _ _ _ c.in-Ok.ensures.answer in
     record { sfits = omega arith }
 
-pub returns-in-Count : goal.returns-in-Count
-returns-in-Count c =
-    let e = c.in-Count.ensures in
+pub returns-in-Ok : goal.returns-in-Ok
+returns-in-Ok c =
+    let e = c.in-Ok.ensures in
     let l = count_low _ _ _ _ _ _ _ _ e.answer in
-    record { answer = to_z_pos w64 c.in-Count.c (omega arith) ∙ ap wire_of e.answer; slice = e.slice }
+    record { answer = to_z_pos w64 c.in-Ok.c (omega arith) ∙ ap wire_of e.answer; slice = e.slice }

@@ -1,32 +1,24 @@
--- `mmt_build::is_as_built` computes the layout and the lookup table, and calls `all_wanted` with them. Assumes nothing.
-use mathlib.Core.Path.{◌≡◌, ap}
-use Prim.Native.Nat.{◌+◌}
-use native.Mathlib.Omega.{arith}
-use Rattle.mmt_layout.specs.declared.Layout.{Layout}
-use Rattle.mmt_layout.specs.Layout.{count}
-use Rattle.mmt_layout.proofs.Admitted.{count_small}
+-- `mmt_build::is_as_built` tests the nodes from the last one down to node 0. Assumes nothing.
+use Rattle.std.proofs.Common.{◌-◌, ap, ◌∙◌, not, arith}
+use Rattle.mmt_build.proofs.Tested.{unequal, start, down, differs, done}
 use Rattle.mmt_build.proofs.check.is_as_built.Goals as goal
 
--- the block leaves and inner nodes of the layout are L + I nodes together
-nodes-after-struct_known-1 : (c : goal.After-struct_known-1) → c.layout_of-lay.result.leaves + c.layout_of-lay.result.inner ≡ count c.args.n c.args.block
-nodes-after-struct_known-1 c = ap (λ (l : Layout). l.leaves + l.inner) c.layout_of-lay.ensures
+pub loop-k-init : goal.loop-k-init
+loop-k-init c = let p = c.args.plan.now in rw c.all-k.ensures (start p.words.now p.n c.args.nodes.now p.block)
 
--- the block leaves and inner nodes of the layout are L + I nodes together
-nodes-after-t-1 : (c : goal.After-t-1) → c.layout_of-lay.result.leaves + c.layout_of-lay.result.inner ≡ count c.args.n c.args.block
-nodes-after-t-1 c = ap (λ (l : Layout). l.leaves + l.inner) c.layout_of-lay.ensures
+pub returns-then-ne : goal.returns-then-ne
+returns-then-ne c =
+    let p = c.args.plan.now in
+    let l = c.loop-k in
+    differs p.words.now p.n c.args.nodes.now p.block l.k (l.k - 1) (omega arith) l.invariant
+    (unequal c.node_at.result c.wanted.result _ _ _ c.node_at.ensures c.wanted.ensures c.ne.ensures ∙ ap not c.if-ne.true)
 
-pub overflow_add-all : goal.overflow_add-all
-overflow_add-all c =
-    let e = nodes-after-struct_known-1 c in let s = c in omega (arith, count_small s.args.n s.args.block s.requires.eight s.requires.short)
-
-pub all_wanted-requires : goal.all_wanted-requires
-all_wanted-requires c =
-    let l = c in
-    let e = nodes-after-t-1 l in
-    record {
-      table = c.table-t.ensures;
-      laid = record { fine = l.requires; first_is = ap (λ (x : Layout). x.inner) l.layout_of-lay.ensures; all_is = omega arith };
-    }
+pub loop-k-preserved : goal.loop-k-preserved
+loop-k-preserved c =
+    let p = c.args.plan.now in
+    let l = c.loop-k in
+    down p.words.now p.n c.args.nodes.now p.block l.k (l.k - 1) (omega arith) l.invariant
+    (unequal c.node_at.result c.wanted.result _ _ _ c.node_at.ensures c.wanted.ensures c.ne.ensures ∙ ap not c.if-ne.false)
 
 pub returns : goal.returns
-returns c = c.all_wanted.ensures
+returns c = let p = c.args.plan.now in done p.words.now p.n c.args.nodes.now p.block c.loop-k.k (omega arith) c.loop-k.invariant

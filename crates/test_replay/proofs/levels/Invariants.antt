@@ -1,6 +1,0 @@
--- The measure is the number of levels that are left.
-use Rattle.std.proofs.Common.{◌-◌}
-use Rattle.test_replay.proofs.levels.Given as goal
-
-abbrev pub decreases-loop-k : goal.decreases-loop-k
-decreases-loop-k g l = l.n - l.k
