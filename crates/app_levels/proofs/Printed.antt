@@ -31,7 +31,8 @@ use Rattle.app_line.proofs.Front.{input_front, words_front}
 use Rattle.app_levels.specs.Shown.{refused_text, refusal_line}
 use Rattle.app_levels.specs.Levels.{lines_for, tree_lines}
 use Rattle.app_levels.specs.Outline.{defined_lines}
-use Rattle.app_levels.specs.Printed.{blank_words, printed, page_bytes, ShortTree}
+use Rattle.app_page.specs.Page.{page_bytes}
+use Rattle.app_levels.specs.Printed.{blank_words, printed, ShortTree}
 use Rattle.app_levels.proofs.Outline.{tree_is}
 use Rattle.app_levels.proofs.Room.{refusal_fits, page_fits}
 

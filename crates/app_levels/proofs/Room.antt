@@ -20,7 +20,6 @@ use borrow.Author.Tests.{ltb-false, lt-ltb}
 use lib.Dec.{ltb}
 use lib.IntN.{pos}
 use lib.ListN.{length, length-append}
-use Rattle.app_levels.specs.Printed.{page_bytes}
 use Rattle.row.specs.Limits.{max_short_bits}
 use Rattle.io.specs.Digits.{last_digits}
 use Rattle.ints.proofs.Shapes.{zsum}
@@ -38,7 +37,7 @@ use Rattle.demands.specs.Lists.{those}
 use Rattle.demands.specs.Handles.{at_depth, level}
 use Rattle.bp_spec.proofs.DefinitionRange.{defined_may}
 use Rattle.demands.proofs.Depths.{stands, not_depth}
-use Rattle.app_page.specs.Page.{places, decimal_of}
+use Rattle.app_page.specs.Page.{page_bytes, places, decimal_of}
 use Rattle.app_levels.specs.Shown.{refused_text, answer_text}
 use Rattle.app_levels.specs.Outline.{lines_of, defined_line, defined_levels, defined_lines}
 

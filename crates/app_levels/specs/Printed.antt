@@ -11,10 +11,6 @@ use Rattle.app_levels.specs.Outline.{defined_lines}
 abbrev pub blank_words : List ℕ
 blank_words = replicate 64 0
 
--- The size of a page in bytes.
-abbrev pub page_bytes : ℕ
-page_bytes = 65536
-
 -- All output for the bytes s.
 unfoldable pub printed : List ℕ → List ℕ
 printed s = lines_for (input_answer s blank_words) (defined_lines (line_words s blank_words))

@@ -5,31 +5,22 @@
 // A refusal prints one line: 2 for more than 4,096 parentheses, 6 for a byte that is no parenthesis, 7 for a row that is not one tree.
 #![tactic(auto)]
 
-ghost use Rattle.std.specs.Prelude.{take, IfSome, OnOk};
+ghost use Rattle.std.specs.Prelude.{IfSome, OnOk};
 ghost use Rattle.std.specs.Io.KnownBytes.{Appends};
 ghost use Rattle.app_levels.specs.Printed.{printed};
 
 mod print;
 mod whole;
 
+use app_page::Page;
 use std::io::{Read, Result, Write};
-
-// The size of a page in bytes. All output fits: the first line and at most 2,048 lines of outline nodes, of at most 20 bytes each.
-const PAGE: usize = 65536;
-
-fn write_page<W: Write>(output: &mut W, page: &[u8], at: usize) -> Result<()>
-    ensures { OnOk result (Appends (W.contents output.old) (W.contents output.new) (take at page.now)) }
-{
-    let count = app_page::filled(page, at);
-    output.write_all(&page[..count])
-}
 
 fn answer<W: Write>(bytes: &[u8], output: &mut W) -> Result<()>
     ensures { OnOk result (Appends (W.contents output.old) (W.contents output.new) (printed bytes.now)) }
 {
-    let mut page = [0u8; PAGE];
-    let at = whole::put_answer(bytes, &mut page);
-    write_page(output, &page, at)
+    let mut page = Page::new();
+    whole::put_answer(&mut page, bytes);
+    output.write_all(page.text())
 }
 
 // Reads from `input` and prints to `output`. `levels` passes standard input and output; `test_inputs` passes files in place of standard input.

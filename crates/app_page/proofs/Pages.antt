@@ -1,7 +1,9 @@
 -- Texts that are added to a page one after another, and the number of digits of a number.
 --   take_joined: the first k elements of two joined lists do not depend on the first list after its first k elements
 --   adds_nothing: an empty text; adds_one, adds_none: one byte, if the page has room and if it is full
---   adds_then: one text and then another; adds_front: a text at the front of a page that has room for it
+--   adds_then: one text and then another
+--   take_over, added_is: a text that is added as `Adds` says is `added` to the filled bytes
+--   added_nothing, added_then, added_front: an empty text, one text and then another, and a text on an empty page that has room for it
 --   places_are, few_places, decimal_is: `decimal_of` gives the digits that `io::decimal` writes
 -- Assumes nothing.
 use mathlib.Core.Path.{◌≡◌, refl, sym, ap, ◌∙◌}
@@ -17,7 +19,7 @@ use lib.Dec.{ltb, leb}
 use lib.ListN.{length, take, set, length-append}
 use lib.Seq.{length-take-le, take_all, take-suc-set, take-append_seam}
 use Rattle.io.specs.Digits.{last_digits, IsDigitCount}
-use Rattle.app_page.specs.Page.{Adds, places, decimal_of}
+use Rattle.app_page.specs.Page.{page_bytes, Adds, added, places, decimal_of}
 
 -- The first k elements of l joined with u do not depend on the elements of l after its first k.
 take_joined : (k : ℕ) (l u : List ℕ) → take k (take k l ++ u) ≡ take k (l ++ u)
@@ -53,13 +55,46 @@ adds_then old page new t u a m r e one two h =
           ∙ take_joined (length old) (take a old ++ t) u ∙ ap (take (length old)) (append_assoc (take a old) t u),
     )
 
--- A text at the front of a page that has room for it.
-pub adds_front : (old new text : List ℕ) (r : ℕ) → length new ≡ length old → length text ≤ length old → Adds old 0 text new r
-    → (r ≡ length text) × (take r new ≡ text)
-adds_front old new text r e h one =
-    let p = one (omega arith) in
-    let t : take r new ≡ text = p.1 ∙ take_all (length old) text h in
-    (sym (length-take-le r new (omega (arith, e, p.0))) ∙ ap length t, t)
+-- ---- a `Page`
+-- An empty text.
+pub added_nothing : (page : List ℕ) → added page [] ≡ page
+unfolding added
+added_nothing page =
+    let nothing : List ℕ = [] in
+    let e : take (page_bytes - length page) nothing ≡ nothing = take_all (page_bytes - length page) nothing (omega arith) in
+    rw e (append-nil page)
+
+-- The first k elements of two joined lists.
+take_over : (k : ℕ) (t u : List ℕ) → take k t ++ take (k - length (take k t)) u ≡ take k (t ++ u)
+take_over zero t u = refl
+take_over (suc k) [] u = let e : suc k - 0 ≡ suc k = omega arith in rw e refl
+take_over (suc k) (x ∷ t) u =
+    let e : suc k - suc (length (take k t)) ≡ k - length (take k t) = omega arith in
+    rw e (ap (λ (r : List ℕ). x ∷ r) (take_over k t u))
+
+-- A text that is added as `Adds` says to a page of `page_bytes` bytes, where the list `page` is the filled ones.
+pub added_is : (old new text page : List ℕ) (a r : ℕ) → take a old ≡ page → Adds old a text new r → length old ≡ page_bytes → a ≤ page_bytes
+    → take r new ≡ added page text
+unfolding added
+added_is old new text page a r v one e l =
+    let h : a ≤ length old = omega (arith, e, l) in
+    let m : length page ≡ a = rw v at (length-take-le a old h) in
+    let t : take page_bytes page ≡ page = take_all page_bytes page (omega (arith, m, l)) in
+    let q : page ++ take (page_bytes - length page) text ≡ take page_bytes (page ++ text) = rw t at (take_over page_bytes page text) in
+    rw (e, v) at (one h).1 ∙ sym q
+
+-- One text, then another.
+pub added_then : (page t u : List ℕ) → added (added page t) u ≡ added page (t ++ u)
+unfolding added
+added_then page t u =
+    let k = page_bytes - length page in
+    let e : page_bytes - length (page ++ take k t) ≡ k - length (take k t) = omega (arith, length-append page (take k t)) in
+    rw (e, append_assoc page (take k t) (take (k - length (take k t)) u)) (ap (λ (x : List ℕ). page ++ x) (take_over k t u))
+
+-- A text on an empty page that has room for it.
+pub added_front : (text : List ℕ) → length text ≤ page_bytes → added [] text ≡ text
+unfolding added
+added_front text h = take_all page_bytes text h
 
 pub places_are : (n k j f : ℕ) → IsDigitCount 10 1 n k → 1 ≤ j → j ≤ k → k ≤ j + f → places n j f ≡ k
 unfolding places

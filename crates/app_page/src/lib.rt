@@ -1,5 +1,6 @@
 // A page: bytes that are filled from the front. The program `levels` collects its output on a page and writes it once, so that one promise can
 // cover all output. `put`, `put_text` and `put_number` put something after the first `at` bytes and answer how many bytes are then filled.
+// A `Page` has 65,536 bytes and keeps this count itself. A promise sees a `Page` as the list of its filled bytes.
 //
 // This crate knows only bytes and numbers. What they mean is up to the caller.
 #![tactic(auto)]
@@ -7,6 +8,12 @@
 ghost use Rattle.std.specs.Prelude.{◌≡◌, min, [], ◌∷◌, length};
 ghost use Rattle.io.specs.Counts.{IsPrefixLen};
 ghost use Rattle.app_page.specs.Page.{Adds, decimal_of};
+
+mod page_of_bytes;
+
+pub use page_of_bytes::Page;
+
+// These functions stay beside `Page`, because docs/PROMISES.md promises them for a page of any length.
 
 // Puts one byte. A full page is unchanged.
 pub fn put(page: &mut [u8], at: usize, b: u8) -> usize

@@ -9,6 +9,7 @@ use crate::request::{Request, answer};
 pub fn over_bytes(row: &[u8], bits: u64, nodes: &[u8], block: u64, request: Request) -> i64
     ensures { result ≡ byte_answer requested row.now bits nodes.now block request }
 {
+    // Arrays of fixed size and no `Vec`: a C function is passed no allocator.
     let mut words = [0u64; wire::WORDS];
     let mut numbers = [0i64; wire::NUMBERS];
     let w = wire::take(row, &mut words);

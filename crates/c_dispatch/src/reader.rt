@@ -33,6 +33,7 @@ pub fn read_text(text: &[u8], row: &mut [u8]) -> i64
     if row::MAX_SHORT_BITS < text.len() {
         return wire::refused(Refusal::TooManyBits);
     }
+    // An array of fixed size and no `Vec`: a C function is passed no allocator.
     let mut words = [0u64; wire::WORDS];
     let w = wire::fitting(row.len(), wire::WORDS);
     read_through(text, &mut words[..w], row)

@@ -1,4 +1,4 @@
-// Listings over byte slices, for rows of up to 4,096 bits.
+// Listings over byte slices, for rows of up to 4,096 bits. The direction of a listing is a value, because C passes it.
 //
 // Each answer is written as eight bytes, up to and with the first `nothing`, or until fewer than eight bytes of `out` are left. Bytes after
 // the answers are unchanged. A refused constructor leaves all bytes unchanged. The answers are first collected in an array; no listing of a
@@ -49,6 +49,7 @@ fn list_decoded(
         out.new
         (listed_bytes rising words.now (wire_bits bits) nodes.now block node (length out.old / 8) out.old) }
 {
+    // An array of fixed size and no `Vec`: a C function is passed no allocator.
     let mut answers = [0i64; wire::ANSWERS];
     let c = wire::fitting(out.len(), wire::ANSWERS);
     put_listing(
@@ -76,6 +77,7 @@ pub fn to_bytes(
     ensures { Writes result (list_wire rising row.now bits nodes.now block node out.old)
         out.new (list_left rising row.now bits nodes.now block node out.old) }
 {
+    // Arrays of fixed size and no `Vec`: a C function is passed no allocator.
     let mut words = [0u64; wire::WORDS];
     let mut numbers = [0i64; wire::NUMBERS];
     let w = wire::take(row, &mut words);

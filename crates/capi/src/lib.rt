@@ -22,6 +22,7 @@ pub extern "C" fn bp_build(row: &[u8], bits: u64, nodes: &mut [u8], block: u64) 
     ensures { Writes result (build_wire row.now bits nodes.old block)
         nodes.new (built_bytes row.now bits nodes.old block) }
 {
+    // Arrays of fixed size and no `Vec`: a C function is passed no allocator.
     let mut words = [0u64; wire::WORDS];
     let mut numbers = [0i64; wire::NUMBERS];
     let w = wire::take(row, &mut words);

@@ -38,6 +38,8 @@ fn made<'a>(
     }
 }
 
+// `children` and `rev_children` stay two functions: README and SCOPE name both, and each is one call.
+
 // Constructs the listing of the children of v, from the first to the last.
 pub fn children<'a>(
     words: &'a [u64],

@@ -3,6 +3,7 @@
 use row::{Found, Refusal};
 use std::io;
 
+// `tell_built` and `tell` of this file and of searches.rt print in two formats, so they are no functions of one module.
 fn tell_built(rt: &impl Print, b: Result<(), Refusal>) -> io::Result<()> {
     match b {
         Ok(()) => Ok(()),

@@ -146,7 +146,7 @@ fn node(
     children(rt, words, n, nodes, block, false, v)
 }
 
-// Prints the line of position i. `before` is the last handle before i, or n if there is none. Returns the same for the position i + 1.
+// Prints the line of position i. `before` is the last handle before i, if there is one. Returns the same for the position i + 1.
 fn position(
     rt: &impl Print,
     words: &[u64],
@@ -154,16 +154,16 @@ fn position(
     nodes: &[i64],
     block: usize,
     i: usize,
-    before: usize,
-) -> io::Result<usize> {
+    before: Option<usize>,
+) -> io::Result<Option<usize>> {
     rt.print(i as u64)?;
     searches(rt, words, n, nodes, block, i)?;
     let handle = bp::admit_node(words, n, nodes, block, i).is_ok();
     if handle {
-        node(rt, words, n, nodes, block, i, before.min(i))?;
+        node(rt, words, n, nodes, block, i, before.unwrap_or(i))?;
     }
     say(rt, b"\n")?;
-    Ok(if handle { i } else { before })
+    Ok(if handle { Some(i) } else { before })
 }
 
 fn positions(
@@ -173,7 +173,7 @@ fn positions(
     nodes: &[i64],
     block: usize,
 ) -> io::Result<()> {
-    let mut before = n;
+    let mut before = None;
     for i in 0..n {
         before = position(rt, words, n, nodes, block, i, before)?;
     }

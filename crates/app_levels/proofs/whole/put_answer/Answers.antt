@@ -1,6 +1,5 @@
--- Each case follows from the promise of the function that puts it, because the page has room.
-use Rattle.std.proofs.Common.{◌≡◌, ◌≤◌, length, arith}
-use Rattle.app_page.proofs.Pages.{adds_front}
+-- Each case follows from the promise of the function that puts it, because an empty page has room.
+use Rattle.app_page.proofs.Pages.{added_front}
 use Rattle.app_levels.specs.Printed.{blank_words, printed}
 use Rattle.app_levels.proofs.Printed.{input_taken, printed_tree, printed_refused, printed_fits}
 use Rattle.app_levels.proofs.whole.put_answer.Goals as goal
@@ -13,18 +12,14 @@ put_built-requires c =
 pub returns-in-Ok : goal.returns-in-Ok
 returns-in-Ok c =
     let s = c.args.bytes.now in
-    let page = c.put_built.new.page in
     let q = printed_tree s _ c.in-Ok.ensures.answer in
     let h = rw c.read_tree.ensures.slice at c.put_built.ensures in
-    let e : length page ≡ length c.args.page.now = omega arith in
-    let l : length (printed s) ≤ length c.args.page.now = omega (arith, printed_fits s) in
-    adds_front c.args.page.now page (printed s) _ e l (rw q at h)
+    let e = added_front (printed s) (printed_fits s) in
+    cc
 
 pub returns-in-Err : goal.returns-in-Err
 returns-in-Err c =
     let s = c.args.bytes.now in
-    let page = c.put_refusal.new.page in
     let q = printed_refused s _ c.in-Err.ensures.answer in
-    let e : length page ≡ length c.args.page.now = omega arith in
-    let l : length (printed s) ≤ length c.args.page.now = omega (arith, printed_fits s) in
-    adds_front c.args.page.now page (printed s) _ e l (rw q at c.put_refusal.ensures)
+    let e = added_front (printed s) (printed_fits s) in
+    cc
