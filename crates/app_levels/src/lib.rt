@@ -3,6 +3,8 @@
 //
 // One call reads the input, until it ends or until 4,097 bytes are read. The text is everything before the first newline.
 // A refusal prints one line: 2 for more than 4,096 parentheses, 6 for a byte that is no parenthesis, 7 for a row that is not one tree.
+//
+// The line, the row, the nodes and the page are arrays of fixed size, so no step of the program can run out of memory.
 #![tactic(auto)]
 
 ghost use Rattle.std.specs.Prelude.{IfSome, OnOk};

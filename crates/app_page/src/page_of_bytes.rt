@@ -10,7 +10,8 @@ use std::marker::Model;
 // The size of a page in bytes.
 const SIZE: usize = 65536;
 
-// A page of 65,536 bytes. At most all of them are filled, and the filled ones are its text.
+// A page of 65,536 bytes. At most all of them are filled, and the filled ones are its text. The bytes are an array and no `Vec`, so that no
+// step of the program can run out of memory.
 #[derive(Drop)]
 pub struct Page {
     bytes: [u8; SIZE],
