@@ -2,7 +2,7 @@
 --   found_lines, no_lines, refused_lines: the lines that follow from the answer of a call
 --   next_is, levels_is: one step of the definitions of the lines
 --   level_start, level_next_put, level_ends, level_refused, level_spent: the lines of a level
---   levels_start, levels_next_put, levels_end, levels_refused, levels_spent: the lines of the levels
+--   levels_next_put, levels_end, levels_refused, levels_spent: the lines of the levels
 --   tree_whole: the page
 -- Assumes nothing.
 use mathlib.Core.Path.{◌≡◌, refl, sym, ◌∙◌}

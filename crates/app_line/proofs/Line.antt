@@ -1,24 +1,22 @@
 -- Laws about the end of a line, the text of a line, and the one-tree test.
 --   end_first: the end of the line is the first newline
---   tree_yes, tree_no, tree_nothing, tree_refused, tree_told: the answer for a row, from each answer of the one-tree test
---   line_many, words_many: a line that is too long; line_read, words_read: a line that the text reader is passed
+--   tree_refused, tree_told: the answer for a row, from the answer of the one-tree test
+--   line_many, words_many: a line that is too long; line_read, words_read, words_end: a line that the text reader is passed
 --   input_refused, input_tree: the answer for the input, from the answers for the line and for the row
 -- Assumes nothing.
-use mathlib.Core.Path.{◌≡◌, refl, ap, ◌∙◌}
+use mathlib.Core.Path.{◌≡◌, refl, sym, ap, ◌∙◌}
 use mathlib.Core.Bool.{Bool, true, false, cond, beq}
 use mathlib.Core.List.{List, [], ◌∷◌}
-use Prim.Native.Nat.{ℕ, zero, suc, ◌+◌, ◌≤◌, ◌<◌}
-use native.Mathlib.Numerals.{add-one}
+use Prim.Native.Nat.{ℕ, zero, suc, ◌≤◌, ◌<◌}
 use native.Mathlib.Omega.{arith}
 use borrow.Author.Tests.{eq-eqb, ne_eqb, le-leb, lt-leb, leb-true}
 use lib.Dec.{leb}
-use lib.ListN.{length, get_or, drop, drop_of_length-le}
-use lib.Seq.{drop-cons}
+use lib.ListN.{length, get_or}
 use Rattle.row.specs.Limits.{max_short_bits}
 use Rattle.row.specs.Gates.{Gate}
-use Rattle.std.specs.Prelude.{Option, Some, None, Ok, Err}
+use Rattle.std.specs.Prelude.{take, Option, Some, None, Ok, Err}
 use Rattle.std.specs.Option.{option_eq}
-use Rattle.row.specs.Answer.{at, nothing, refused, paper_told}
+use Rattle.row.specs.Answer.{Answer, at, refused, paper_told}
 use Rattle.row.specs.Gates.{row_gate, through}
 use Rattle.row.specs.Tree.{one_tree}
 use Rattle.row.proofs.Gates.{row_passed}
@@ -37,24 +35,6 @@ end_first (b ∷ s) (suc r) h before here =
     (ap suc (end_first s r (omega arith) (λ k l. before (suc k) (omega arith)) (λ l. here (omega arith))))
 
 module _ (ws : List ℕ) (n : ℕ) where
-  tree_yes : at 1 ≡ one_tree_answer ws n → at n ≡ tree_answer ws n
-  unfolding one_tree_answer tree_answer
-  tree_yes h = by (row_gate (length ws) n) refl (one_tree ws n) refl
-    where
-      by : (g : Gate) → row_gate (length ws) n ≡ g → (b : Bool) → one_tree ws n ≡ b → at n ≡ tree_answer ws n
-      by (Ok tt) g true b = simp (g, b)
-      by (Ok tt) g false b = cc (h, g, b)
-      by (Err k) g b e = cc (h, g)
-
-  tree_no : at 0 ≡ one_tree_answer ws n → refused 7 ≡ tree_answer ws n
-  unfolding one_tree_answer tree_answer
-  tree_no h = by (row_gate (length ws) n) refl (one_tree ws n) refl
-    where
-      by : (g : Gate) → row_gate (length ws) n ≡ g → (b : Bool) → one_tree ws n ≡ b → refused 7 ≡ tree_answer ws n
-      by (Ok tt) g true b = cc (h, g, b)
-      by (Ok tt) g false b = simp (g, b)
-      by (Err k) g b e = cc (h, g)
-
   pub tree_refused : (k : ℕ) → refused k ≡ one_tree_answer ws n → refused k ≡ tree_answer ws n
   unfolding one_tree_answer tree_answer
   tree_refused k h = by (row_gate (length ws) n) refl (one_tree ws n) refl
@@ -64,40 +44,43 @@ module _ (ws : List ℕ) (n : ℕ) where
       by (Ok tt) g false b = cc (h, g, b)
       by (Err r) g b e = cc (h, g)
 
-  tree_nothing : nothing ≡ one_tree_answer ws n → refused 7 ≡ tree_answer ws n
-  unfolding one_tree_answer tree_answer
-  tree_nothing h = by (row_gate (length ws) n) refl (one_tree ws n) refl
-    where
-      by : (g : Gate) → row_gate (length ws) n ≡ g → (b : Bool) → one_tree ws n ≡ b → refused 7 ≡ tree_answer ws n
-      by (Ok tt) g true b = cc (g, b)
-      by (Ok tt) g false b = cc (h, g, b)
-      by (Err r) g b e = cc (h, g)
-
-  -- The same, where the answer is only compared with yes.
+  -- The answer of the test is only compared with yes.
   pub tree_told : (r : Option Bool) (t : Bool) → t ≡ option_eq beq r (Some true) → paper_told (Ok r) ≡ one_tree_answer ws n
       → cond t (at n) (refused 7) ≡ tree_answer ws n
-  tree_told (Some true) t e h = rw e (tree_yes h)
-  tree_told (Some false) t e h = rw e (tree_no h)
-  tree_told None t e h = rw e (tree_nothing h)
+  unfolding one_tree_answer tree_answer
+  tree_told r t e h = rw e (by r h (row_gate (length ws) n) refl (one_tree ws n) refl)
+    where
+      by : (r : Option Bool) → paper_told (Ok r) ≡ one_tree_answer ws n → (g : Gate) → row_gate (length ws) n ≡ g → (b : Bool) → one_tree ws n ≡ b
+          → cond (option_eq beq r (Some true)) (at n) (refused 7) ≡ tree_answer ws n
+      by (Some true) h (Ok tt) g true b = simp (g, b)
+      by (Some true) h (Ok tt) g false b = cc (h, g, b)
+      by (Some true) h (Err k) g b e = cc (h, g)
+      by (Some false) h (Ok tt) g true b = cc (h, g, b)
+      by (Some false) h (Ok tt) g false b = simp (g, b)
+      by (Some false) h (Err k) g b e = cc (h, g)
+      by None h (Ok tt) g true b = cc (h, g, b)
+      by None h (Ok tt) g false b = simp (g, b)
+      by None h (Err k) g b e = cc (h, g)
 
-module _ (s : List ℕ) where
-  pub line_many : max_short_bits < line_end s → refused 2 ≡ line_answer s
+-- A line that is too long, whose end was found at e.
+module _ (s : List ℕ) {e : ℕ} (end : e ≡ line_end s) (many : max_short_bits < e) where
+  pub line_many : refused 2 ≡ line_answer s
   unfolding line_answer
-  line_many h = simp (lt-leb (line_end s) max_short_bits h)
+  line_many = simp (lt-leb (line_end s) max_short_bits (rw end at many))
+
+  pub words_many : (ws : List ℕ) → ws ≡ line_words s ws
+  unfolding line_words
+  words_many ws = simp (lt-leb (line_end s) max_short_bits (rw end at many))
 
 module _ (s ws : List ℕ) where
-  pub words_many : max_short_bits < line_end s → ws ≡ line_words s ws
-  unfolding line_words
-  words_many h = simp (lt-leb (line_end s) max_short_bits h)
-
   pub words_read : line_end s ≤ max_short_bits → text_words (line s) ws ≡ line_words s ws
   unfolding line_words
   words_read h = simp (le-leb (line_end s) max_short_bits h)
 
-  pub line_read : line_end s ≤ max_short_bits → length (line s) ≡ line_end s → length ws ≡ 64
+  line_read_lem : line_end s ≤ max_short_bits → length (line s) ≡ line_end s → length ws ≡ 64
       → through (text_gate (line s) (length ws)) (at (length (line s))) ≡ line_answer s
   unfolding line_answer
-  line_read h l w = by (all_parentheses (line s)) refl
+  line_read_lem h l w = by (all_parentheses (line s)) refl
     where
       by : (b : Bool) → all_parentheses (line s) ≡ b → through (text_gate (line s) (length ws)) (at (length (line s))) ≡ line_answer s
       by true e =
@@ -108,6 +91,14 @@ module _ (s ws : List ℕ) where
           let g = text_other (line s) (length ws) (omega (arith, l)) e in
           rw (← g) (simp (le-leb (line_end s) max_short_bits h, e))
 
+  -- The same for the text before the end that was found, and what the text reader gave for it.
+  module _ {e : ℕ} (end : e ≡ line_end s) (short : e ≤ max_short_bits) where
+    pub line_read : {a : Answer} → e ≡ length (take e s) → length ws ≡ 64 → a ≡ through (text_gate (take e s) (length ws)) (at (length (take e s))) → a ≡ line_answer s
+    line_read l w h = rw end at h ∙ line_read_lem (rw end at short) (rw end at (sym l)) w
+
+    pub words_end : {us : List ℕ} → us ≡ text_words (take e s) ws → us ≡ line_words s ws
+    words_end h = rw end at h ∙ words_read (rw end at short)
+
   pub input_refused : (k : ℕ) → refused k ≡ line_answer s → refused k ≡ input_answer s ws
   unfolding line_answer input_answer
   input_refused k h = by (leb (line_end s) max_short_bits) refl (all_parentheses (line s)) refl
@@ -117,9 +108,9 @@ module _ (s ws : List ℕ) where
       by true p false q = cc (h, p, q)
       by false p b q = cc (h, p)
 
-  pub input_tree : (n : ℕ) → 64 ≡ length (line_words s ws) → at n ≡ line_answer s → tree_answer (line_words s ws) n ≡ input_answer s ws
+  input_tree_lem : (n : ℕ) → 64 ≡ length (line_words s ws) → at n ≡ line_answer s → tree_answer (line_words s ws) n ≡ input_answer s ws
   unfolding line_answer input_answer tree_answer
-  input_tree n w h = by (leb (line_end s) max_short_bits) refl (all_parentheses (line s)) refl
+  input_tree_lem n w h = by (leb (line_end s) max_short_bits) refl (all_parentheses (line s)) refl
     where
       by : (a : Bool) → leb (line_end s) max_short_bits ≡ a → (b : Bool) → all_parentheses (line s) ≡ b → tree_answer (line_words s ws) n ≡ input_answer s ws
       by true p true q =
@@ -129,3 +120,12 @@ module _ (s ws : List ℕ) where
           rw (← o, ← words_read l, e) (simp (p, q))
       by true p false q = cc (h, p, q)
       by false p b q = cc (h, p)
+
+  -- The same for the words us that were read and the answer a for them.
+  pub input_tree : {us : List ℕ} {n : ℕ} {a : Answer} → us ≡ line_words s ws → 64 ≡ length us → at n ≡ line_answer s → a ≡ tree_answer us n → a ≡ input_answer s ws
+  input_tree {n = n} e w h q = rw e at q ∙ input_tree_lem n (rw e at w) h
+
+-- The laws for the proof of `read_line`, and for that of `read_tree`.
+pub ruleset line_steps = (line_many, words_many, line_read, words_end)
+
+pub ruleset input_steps = (input_refused, input_tree)

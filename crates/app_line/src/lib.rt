@@ -28,6 +28,7 @@ pub fn line_end(bytes: &[u8]) -> usize
 
 // Reads the text of the line into the words, with refusals 2 and 6. The program passes at most 4,097 bytes: 4,097 bytes without a newline are
 // refusal 2, whatever they are.
+#[tactic(auto, using(crate::proofs::Line::line_steps))]
 fn read_line(bytes: &[u8], words: &mut [u64; 64]) -> Result<usize, Refusal>
     ensures { Writes (paper_read result) (line_answer bytes.now)
         words.new (line_words bytes.now words.old) }
@@ -41,6 +42,7 @@ fn read_line(bytes: &[u8], words: &mut [u64; 64]) -> Result<usize, Refusal>
 
 // Refuses a row that is not one tree by 7. The second promise states the length of the array: the proof of `read_tree` needs it and can take it
 // only from here.
+#[tactic(auto, using(crate::proofs::Line::tree_refused))]
 fn admit_tree(words: &[u64; 64], n: usize) -> Result<usize, Refusal>
     ensures { Admits (paper_read result) words.now n }
 {
@@ -51,6 +53,7 @@ fn admit_tree(words: &[u64; 64], n: usize) -> Result<usize, Refusal>
 }
 
 // Reads one tree into the words. Returns its number of bits, or the refusal.
+#[tactic(auto, using(crate::proofs::Line::input_steps))]
 pub fn read_tree(bytes: &[u8], words: &mut [u64; 64]) -> Result<usize, Refusal>
     ensures { Writes (paper_read result) (input_answer bytes.now words.old)
         words.new (line_words bytes.now words.old) }

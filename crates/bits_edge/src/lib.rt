@@ -1,7 +1,7 @@
-// The scan and the summary of a few bits of a row that lie in one word: those before the first and after the last whole byte of a stretch.
+// The scan and the summary of a few bits of a row that lie in one word: those at the start of a search, up to a byte boundary, and those after
+// the last whole byte of a stretch.
 //
-// These bits are fewer than eight. So they are read one by one from a single word, and no lookup table is needed. A search reads the
-// bits at its start this way, before it creates the table.
+// These bits are fewer than eight. So they are read one by one from a single word, and no lookup table is needed.
 //
 // The functions refuse nothing. Callers keep the bounds that a `requires` states.
 #![tactic(auto)]

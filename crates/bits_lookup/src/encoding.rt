@@ -1,21 +1,12 @@
 // The table of the byte lookup. The entry of a byte is (least + 8) * 32 + (greatest + 8), with least and greatest of its summary.
 // Neither value is below -8, so no entry is negative.
-//
-// A `const` is copied into the frame of each function that reads it. So the function that needs the table creates it once and
-// passes it on as a `Lookup`.
 ghost use Rattle.std.specs.Prelude.{◌≡◌};
 ghost use Rattle.row.specs.Bits.{digit};
 ghost use Rattle.bits_stretch.specs.Summary.{summary_of};
 ghost use Rattle.bits_lookup.specs.Table.{encoded, IsTable};
 
-// The byte lookup. The table of every `Lookup` is right.
-#[derive(Clone, Copy)]
-pub struct Lookup {
-    entries: [u16; 256],
-    ghost table: { IsTable entries },
-}
-
-const TABLE: [u16; 256] = [
+// It is a `static` and no `const`, because a `const` array is copied into the frame of each function that reads it.
+static TABLE: [u16; 256] = [
     7, 73, 72, 138, 71, 137, 137, 203, 71, 137, 136, 202, 136, 202, 202, 268, 71, 137, 136, 202,
     135, 201, 201, 267, 135, 201, 201, 267, 201, 267, 235, 301, 71, 137, 136, 202, 135, 201, 201,
     267, 135, 201, 200, 266, 200, 266, 234, 300, 135, 201, 200, 266, 200, 266, 234, 300, 168, 234,
@@ -32,16 +23,16 @@ const TABLE: [u16; 256] = [
     170, 236, 236, 302, 204, 270, 238, 304,
 ];
 
-impl Lookup {
-    // Creates the lookup, to be passed to all that reads bytes.
-    pub fn new() -> Lookup {
-        Lookup { entries: TABLE }
-    }
+// Returns the table.
+pub fn table() -> &'static [u16; 256]
+    ensures { IsTable result.now }
+{
+    &TABLE
+}
 
-    // Returns the entry of the byte b.
-    pub fn entry(&self, b: u8) -> u16
-        ensures { result ≡ encoded (summary_of (digit b) 0 8) }
-    {
-        self.entries[b as usize]
-    }
+// Returns the entry of the byte b.
+pub fn entry(b: u8) -> u16
+    ensures { result ≡ encoded (summary_of (digit b) 0 8) }
+{
+    table()[b as usize]
 }

@@ -1,7 +1,6 @@
 // Eight bits at a time: the summary of a byte by a lookup table, and the scan of a byte (SCOPE, The byte lookup).
 //
-// The promises speak only of the bits of the byte, not of the table. A caller creates a `Lookup` once and passes it on. That its table is
-// right is an invariant of the type.
+// The promises speak only of the bits of the byte, not of the table.
 //
 // The functions refuse nothing. Callers keep the bounds that a `requires` states.
 #![tactic(auto)]
@@ -10,5 +9,6 @@ mod block;
 mod encoding;
 mod summary;
 
-pub use encoding::Lookup;
-pub use summary::word_total;
+pub use block::scan_byte;
+pub use encoding::{entry, table};
+pub use summary::{byte_summary, word_total};

@@ -4,7 +4,7 @@ ghost use Rattle.row.specs.Bits.{digit};
 ghost use Rattle.row.specs.Excess.{excess};
 ghost use Rattle.bits_stretch.specs.Summary.{summary_of};
 
-use crate::encoding::Lookup;
+use crate::encoding::entry;
 use bits_stretch::Summary;
 
 // Returns the value that a part of an entry encodes. In an entry it is raised by 8.
@@ -34,16 +34,14 @@ pub fn word_total(w: u64) -> i64
     ones - zeros
 }
 
-impl Lookup {
-    // Returns the summary of the byte b.
-    pub fn byte_summary(&self, b: u8) -> Summary
-        ensures { result ≡ summary_of (digit b) 0 8 }
-    {
-        let e = self.entry(b);
-        Summary {
-            total: byte_total(b),
-            least: lowered(e / 32),
-            greatest: lowered(e % 32),
-        }
+// Returns the summary of the byte b.
+pub fn byte_summary(b: u8) -> Summary
+    ensures { result ≡ summary_of (digit b) 0 8 }
+{
+    let e = entry(b);
+    Summary {
+        total: byte_total(b),
+        least: lowered(e / 32),
+        greatest: lowered(e % 32),
     }
 }

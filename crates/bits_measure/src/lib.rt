@@ -13,24 +13,32 @@ ghost use Rattle.bits_stretch.specs.Summary.{summary_of};
 ghost use Rattle.bits_edge.specs.Parts.{InRow};
 
 use bits_edge::edge_summary;
-use bits_lookup::Lookup;
 use bits_stretch::Summary;
 
+// Returns the summary of byte q of a row.
+#[tactic(auto, using(crate::proofs::Totals::byte_summary))]
+fn byte_summary(words: &[u64], q: usize) -> Summary
+    requires { q < 8 * length words.now }
+    ensures { result ≡ summary_of (bit_at words.now) (8 * q) 8 }
+{
+    bits_lookup::byte_summary(row::byte(words, q))
+}
+
 // Returns the summary of bytes `from` to `to` - 1 of a row, at least one byte.
-fn bytes_summary(t: &Lookup, words: &[u64], from: usize, to: usize) -> Summary
+fn bytes_summary(words: &[u64], from: usize, to: usize) -> Summary
     requires in_row { InRow (8 * length words.now) from to max_bytes }
     requires from_lt_to { from < to }
     ensures { result ≡ summary_of (bit_at words.now) (8 * from) (8 * (to - from)) }
 {
-    let mut x = t.byte_summary(row::byte(words, from));
-    for k in from + 1..to {
-        x = x.join(t.byte_summary(row::byte(words, k)));
-    }
-    x
+    (from + 1..to).fold(
+        byte_summary(words, from),
+        |x, q| x.join(byte_summary(words, q)),
+    )
 }
 
 // Returns the summary of bits `from` to `to` - 1 of a row, at least one bit. `from` is a multiple of 8, because blocks begin there.
-pub fn stretch_summary(t: &Lookup, words: &[u64], from: usize, to: usize) -> Summary
+#[tactic(auto, using(crate::proofs::Totals::tail_summary))]
+pub fn stretch_summary(words: &[u64], from: usize, to: usize) -> Summary
     requires in_row { InRow (64 * length words.now) from to max_bits }
     requires from_value { (from % 8 ≡ 0) × (from < to) }
     ensures { result ≡ summary_of (bit_at words.now) from (to - from) }
@@ -40,7 +48,7 @@ pub fn stretch_summary(t: &Lookup, words: &[u64], from: usize, to: usize) -> Sum
     if z == a {
         return edge_summary(words, from, to);
     }
-    let x = bytes_summary(t, words, a, z);
+    let x = bytes_summary(words, a, z);
     if to % 8 == 0 {
         return x;
     }

@@ -1,3 +1,2 @@
 pub mod Pieces
-pub mod InWords
 pub mod Ends

@@ -3,6 +3,8 @@
 --   part_hit: a hit in the part is the hit of the whole scan
 --   part_on: if the part leaves a remainder, Reading holds for the bits after it
 --   byte_scan: a scan of a byte, with its hit moved, is a scan of these bits of its word
+--   byte_read: byte k of a word is that of `to_le_bytes`
+--   whole_scan: a scan of a word, with its hit moved, is a scan of these bits of the row
 --   piece_hit, piece_on: the same for a loop whose piece k begins at g k; a piece is a word or a byte
 --   total_back: the total of a word is unchanged by being stored in an i64
 --   far_left: if |r| is above 64, the scan of a whole word leaves the remainder after passing its total
@@ -12,12 +14,15 @@ use Prim.Native.Nat.{ℕ, zero, suc, ◌+◌, ◌-◌, ◌*◌, ◌/◌, ◌%◌
 use native.Mathlib.Omega.{arith}
 use native.Mathlib.Nat.{zero-add, add-zero, add-suc}
 use lib.IntN.{ℤ}
+use lib.ListN.{get_or}
+use mathlib.Core.List.{List}
 use mir.Syntax.{w64}
 use mir.Val.{SFits, to_z, of_z}
 use mir.ValLaws.{to_z-of_z}
 use Rattle.ints.specs.Sides.{size}
 use Rattle.ints.proofs.Shapes.{zsum}
-use Rattle.row.specs.Bits.{digit}
+use Rattle.std.specs.Int.{to_le_bytes}
+use Rattle.row.specs.Bits.{digit, bit_at}
 use Rattle.row.specs.Excess.{excess}
 use Rattle.row.specs.Way.{Way, forward, backward}
 use Rattle.row.proofs.Digits.{byte_of}
@@ -27,6 +32,7 @@ use Rattle.std.specs.declared.ops.ControlFlow.TheVariants.{Break, Continue}
 use Rattle.bits_stretch.specs.Scan.{place, rest, passed, scan, moved}
 use Rattle.bits_stretch.proofs.Parts.{scan_onward, then_at, scan_split, scan_shift, scan_size}
 use Rattle.bits_stretch.proofs.Covers.{skip_far}
+use Rattle.bits_edge.proofs.Words.{word_scan}
 pub use Rattle.bits_stretch.proofs.Steps.{Reading, reading_start, reading_done}
 
 -- ---- part by part
@@ -57,7 +63,17 @@ module _ {w : Way} {f : ℕ → ℕ} {c a : ℕ} {r : ℤ} {m j : ℕ} {q : ℤ}
     inside = omega (arith, s.inside, t.count, t.next, then_from w p j);
   })
 
--- ---- bits of a byte
+-- ---- bits of a byte, and of a word
+pub byte_read : (v k : ℕ) → k < 8 → get_or (to_le_bytes w64 v) k 0 ≡ v / 2 ^ (8 * k) % 256
+byte_read v zero h = omega arith
+byte_read v (suc zero) h = omega arith
+byte_read v (suc (suc zero)) h = omega arith
+byte_read v (suc (suc (suc zero))) h = omega arith
+byte_read v (suc (suc (suc (suc zero)))) h = omega arith
+byte_read v (suc (suc (suc (suc (suc zero))))) h = omega arith
+byte_read v (suc (suc (suc (suc (suc (suc zero)))))) h = omega arith
+byte_read v (suc (suc (suc (suc (suc (suc (suc zero))))))) h = omega arith
+byte_read v (suc (suc (suc (suc (suc (suc (suc (suc k)))))))) h = absurd (omega arith)
 
 -- Byte k of the word v is b. Its bits are the bits of the word from 8k on.
 module _ (w : Way) where
@@ -69,6 +85,10 @@ module _ (w : Way) where
       ∙ ap (moved (8 * k)) e
       ∙ sym (scan_shift w (digit v) (digit b) (8 * k) 8 0 r (λ j l m. rw h (sym (byte_of v k j (omega arith)))))
       ∙ rw (n, add-zero) refl
+
+  pub whole_scan : (ws : List ℕ) (k : ℕ) (r : ℤ) {y z : Scanned} → y ≡ scan w (digit (get_or ws k 0)) 64 0 r → z ≡ moved (64 * k) y
+      → z ≡ scan w (bit_at ws) (64 * suc k - 64 * k) (64 * k) r
+  whole_scan ws k r e m = m ∙ word_scan w ws r (record { count = omega arith; begin = omega arith; inside = omega arith }) e
 
 -- ---- one turn of a loop over pieces
 

@@ -3,3 +3,4 @@ pub mod Steps
 pub mod Parts
 pub mod Meets
 pub mod Covers
+pub mod RangeFolds

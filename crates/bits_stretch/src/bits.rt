@@ -68,9 +68,5 @@ pub fn bits_summary(word: u64, from: usize, to: usize) -> Summary
     requires { (from < to) × (to ≤ 64) }
     ensures { result ≡ summary_of (digit word) from (to - from) }
 {
-    let mut x = bit_summary(word, from);
-    for j in from + 1..to {
-        x = x.join(bit_summary(word, j));
-    }
-    x
+    (from + 1..to).fold(bit_summary(word, from), |x, j| x.join(bit_summary(word, j)))
 }

@@ -38,9 +38,9 @@ fn admit_both<'a>(
         ≡ and_then (nodes_gate (length words.now) n (length nodes.now) block) (both_gate words.now n a d) }
     ensures parts { IfOk result (HasParts words.now n nodes.now block) }
 {
-    let row = admit_node(words, n, nodes, block, a)?;
-    row::admit_handle(words, n, d)?;
-    Ok(row)
+    let admitted = admit_node(words, n, nodes, block, a)?;
+    admitted.row().admit_handle(d)?;
+    Ok(admitted)
 }
 
 // Tests whether a is d or an ancestor of d: a <= d < c with c = `close(a)`. The answer is nothing if a has no close.

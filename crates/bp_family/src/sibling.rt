@@ -9,7 +9,7 @@ ghost use Rattle.bp_spec.specs.HandleCalls.{HandlePromise};
 ghost use Rattle.bp_spec.specs.SiblingCalls.{last_child, next_sibling, previous_sibling};
 
 use bits_stretch::{Backward, Forward};
-use bp_handle::{admit_node, handle_after, is_open};
+use bp_handle::{admit_node, handle_after};
 use mmt_layout::Admitted;
 use row::Found;
 use walk_code::walk;
@@ -28,7 +28,7 @@ fn last_of(row: Admitted, v: usize) -> Found
     requires { v < row.n }
     ensures { paper_found result ≡ on_row last_child row.entry v }
 {
-    if !is_open(row.words, row.n, v + 1) {
+    if !row.row().opens(v + 1) {
         return Ok(None);
     }
     let Some(c) = walk::<Forward>(row, v, -1)? else {
@@ -53,11 +53,11 @@ fn next_of(row: Admitted, v: usize) -> Found
     let Some(c) = walk::<Forward>(row, v, -1)? else {
         return Ok(None);
     };
-    Ok(handle_after(row.words, row.n, c))
+    Ok(handle_after(row.row(), c))
 }
 
 // Returns the previous sibling of v: `open(v - 1)` if v > 0 and position v - 1 is a close bit. Otherwise it is nothing, without a search.
-#[tactic(auto, using(bp_spec::proofs::HandleAnswers::node_err, bp_spec::proofs::HandleAnswers::node_inside))]
+#[tactic(auto, using(bp_spec::proofs::HandleAnswers::node_err))]
 pub fn previous_sibling(words: &[u64], n: usize, nodes: &[i64], block: usize, v: usize) -> Found
     ensures { HandlePromise previous_sibling words.now n nodes.now block v (paper_found result) }
 {
@@ -65,11 +65,11 @@ pub fn previous_sibling(words: &[u64], n: usize, nodes: &[i64], block: usize, v:
 }
 
 // Answers `previous_sibling(v)` after its tests have passed.
+#[tactic(auto, unfolding(bp_spec::specs::SiblingCalls::previous_sibling))]
 fn previous_of(row: Admitted, v: usize) -> Found
-    requires { v < row.n }
     ensures { paper_found result ≡ on_row previous_sibling row.entry v }
 {
-    if v == 0 || row::opens_at(row.words, v - 1) {
+    if v == 0 || !row.row().closes(v - 1) {
         return Ok(None);
     }
     walk::<Backward>(row, v - 1, -1)

@@ -7,5 +7,5 @@
 mod bare;
 mod gate;
 
-pub use bare::{first_child, handle_after, is_leaf, is_open, root};
+pub use bare::{first_child, handle_after, is_leaf, root};
 pub use gate::{admit_handle, admit_node};

@@ -101,7 +101,7 @@ module _ (x : Summary) {r : Result Summary Refusal} (p : r ≡ examined_of x) wh
   root_err {k} q = go (fits x) (sym q ∙ p)
     where
       go : (b : Bool) → Err k ≡ cond b (Ok x) (Err NodesMisfit) → (b ≡ false) × (k ≡ NodesMisfit)
-      go true e = let z : ◌≡◌ {A = ℕ} 0 1 = cc in absurd (omega arith)
+      go true e = (cc, cc)
       go false e = (refl, cc)
 
   module _ {y : Summary} (q : r ≡ Ok y) where
@@ -111,7 +111,7 @@ module _ (x : Summary) {r : Result Summary Refusal} (p : r ≡ examined_of x) wh
       where
         go : (b : Bool) → Ok y ≡ cond b (Ok x) (Err NodesMisfit) → (b ≡ true) × (x ≡ y)
         go true e = (refl, cc)
-        go false e = let z : ◌≡◌ {A = ℕ} 0 1 = cc in absurd (omega arith)
+        go false e = (cc, cc)
 
     pub root_near : size x.total ≤ max_bits
     root_near = fits_size x root_fit.0

@@ -9,8 +9,8 @@ ghost use Rattle.bp_spec.specs.SearchPair.{on_row};
 ghost use Rattle.bp_spec.specs.LevelEnds.{level_leftmost, level_rightmost, in_row, root_start, LevelPromise, RightmostPromise};
 ghost use Rattle.bp_level.specs.RootStart.{RootThere, RootTotal};
 
-use crate::from_node::{open_before, too_far};
-use bits_stretch::Forward;
+use crate::from_node::{too_far, walk_twice};
+use bits_stretch::{Backward, Forward};
 use mmt_layout::Admitted;
 use row::Found;
 use walk_code::walk;
@@ -64,7 +64,7 @@ fn rightmost_at(row: Admitted, k: u64) -> Found
     let Some(i) = root_start(row.n, row.nodes)? else {
         return Ok(None);
     };
-    open_before(row, i, k as i64)
+    walk_twice::<Backward>(row, i, k as i64, -1)
 }
 
 // ---- the calls

@@ -1,10 +1,10 @@
 // The calls on levels that take a handle: `level_ancestor`, `level_next` and `level_prev`.
 //
 // They test refusals 1 to 5, and the walk may give refusal 8. `level_ancestor` takes any u64 as its level; above n the answer is nothing.
-// The functions `too_far` and `open_before` are public because `level_leftmost` and `level_rightmost` use them too.
+// The functions `too_far` and `walk_twice` are public because `level_leftmost` and `level_rightmost` use them too.
 ghost use Rattle.std.specs.Prelude.{◌≡◌, ltb};
 ghost use Rattle.row.specs.Answer.{paper_found};
-ghost use Rattle.bp_spec.specs.SearchPair.{walked_on, on_row, onward, open_of};
+ghost use Rattle.bp_spec.specs.SearchPair.{on_row, onward, walked_to};
 ghost use Rattle.bp_spec.specs.HandleCalls.{HandlePromise};
 ghost use Rattle.bp_spec.specs.LevelCalls.{level_ancestor, level_next, level_prev};
 
@@ -12,7 +12,7 @@ use bits_stretch::{Backward, Forward};
 use bp_handle::admit_node;
 use mmt_layout::Admitted;
 use row::Found;
-use walk_code::walk;
+use walk_code::{StartOfWalk, walk};
 
 // Tests whether k > n: the excess of two positions of n bits never differs by more than n. The test uses the u64, because not every u64 is
 // an i64.
@@ -38,26 +38,14 @@ fn ancestor_at(row: Admitted, v: usize, k: u64) -> Found
     walk::<Backward>(row, v, -(k as i64))
 }
 
-// Answers `level_next(v)`: fwd(c, 1) with c = `close(v)`.
-#[tactic(auto, unfolding(bp_spec::specs::LevelCalls::level_next))]
-fn next_of(row: Admitted, v: usize) -> Found
-    ensures { paper_found result ≡ on_row level_next row.entry v }
+// Walks from i for r, and then from the position found for s, both in the direction D.
+pub fn walk_twice<D: StartOfWalk>(row: Admitted, i: usize, r: i64, s: i64) -> Found
+    ensures { paper_found result ≡ onward (walked_to D.way row.entry i r) (λ j. walked_to D.way row.entry j s) }
 {
-    let Some(c) = walk::<Forward>(row, v, -1)? else {
+    let Some(j) = walk::<D>(row, i, r)? else {
         return Ok(None);
     };
-    walk::<Forward>(row, c, 1)
-}
-
-// Returns `open(j)` with j = bwd(i, r).
-pub fn open_before(row: Admitted, i: usize, r: i64) -> Found
-    ensures { paper_found result
-        ≡ onward ((walked_on row.entry).bwd i r) (open_of (walked_on row.entry)) }
-{
-    let Some(c) = walk::<Backward>(row, i, r)? else {
-        return Ok(None);
-    };
-    walk::<Backward>(row, c, -1)
+    walk::<D>(row, j, s)
 }
 
 // ---- the calls
@@ -82,7 +70,7 @@ pub fn level_ancestor(
 pub fn level_next(words: &[u64], n: usize, nodes: &[i64], block: usize, v: usize) -> Found
     ensures { HandlePromise level_next words.now n nodes.now block v (paper_found result) }
 {
-    next_of(admit_node(words, n, nodes, block, v)?, v)
+    walk_twice::<Forward>(admit_node(words, n, nodes, block, v)?, v, -1, 1)
 }
 
 // Returns the previous outline node on the level of v: `open(j)` with j = bwd(v, 1).
@@ -90,5 +78,5 @@ pub fn level_next(words: &[u64], n: usize, nodes: &[i64], block: usize, v: usize
 pub fn level_prev(words: &[u64], n: usize, nodes: &[i64], block: usize, v: usize) -> Found
     ensures { HandlePromise level_prev words.now n nodes.now block v (paper_found result) }
 {
-    open_before(admit_node(words, n, nodes, block, v)?, v, 1)
+    walk_twice::<Backward>(admit_node(words, n, nodes, block, v)?, v, 1, -1)
 }

@@ -39,7 +39,7 @@ module _ (l : List ℕ) where
   may_onward b c nothing f h g = tt
   may_onward b c (refused k) f h g = h
 
-  may_cond : (b : ℕ) (t : Bool) (x y : Answer) → (t ≡ true → May b l x) → May b l y → May b l (cond t x y)
+  pub may_cond : (b : ℕ) (t : Bool) (x y : Answer) → (t ≡ true → May b l x) → May b l y → May b l (cond t x y)
   may_cond b true x y h g = h refl
   may_cond b false x y h g = g
 

@@ -5,7 +5,7 @@
 --   ancestor_equal: `is_ancestor`, which takes two handles
 --   equal: every call
 -- Assumes nothing.
-use mathlib.Core.Path.{◌≡◌, sym}
+use mathlib.Core.Path.{◌≡◌, sym, ap}
 use mathlib.Core.List.{List}
 use Prim.Native.Nat.{ℕ, ◌<◌}
 use native.Mathlib.Omega.{arith}
@@ -21,7 +21,6 @@ use Rattle.mmt_layout.specs.Layout.{nodes_gate, Fine}
 use Rattle.mmt_layout.proofs.Gates.{fine_gate}
 use Rattle.bp_spec.specs.RowCalls.{handle_answer}
 use Rattle.mmt_node.specs.Nodes.{AsBuilt}
-use Rattle.walk_spec.proofs.Right.{walk_forward, walk_backward}
 use Rattle.bp_spec.specs.SearchPair.{Searches, walked, defined}
 use Rattle.bp_spec.specs.SearchCalls.{search_answer, outward}
 use Rattle.bp_spec.specs.HandleCalls.{node_answer, node_defined}
@@ -52,11 +51,11 @@ module _ (ws : List ℕ) (n : ℕ) (s : List ℤ) (B : ℕ) (fine : Fine (length
 
   fwd_equal : (i : ℕ) (r : ℤ) → search_answer forward ws n s B i r ≡ fwd ws n i r
   unfolding search_answer
-  fwd_equal i r = rw gate (walk_forward ws n s B blocks fine.short built i r)
+  fwd_equal i r = rw gate (ap (λ y. y.fwd i r) searches)
 
   bwd_equal : (i : ℕ) (r : ℤ) → search_answer backward ws n s B i r ≡ bwd ws n i r
   unfolding search_answer
-  bwd_equal i r = rw gate (walk_backward ws n s B blocks fine.short built i r)
+  bwd_equal i r = rw gate (ap (λ y. y.bwd i r) searches)
 
   node_equal : (c : List ℕ → ℕ → Searches → ℕ → Answer) (v : ℕ) → node_answer c ws n s B v ≡ node_defined c ws n v
   unfolding node_answer node_defined

@@ -8,7 +8,7 @@ use mathlib.Core.List.{List, [], ◌∷◌}
 use Prim.Native.Nat.{ℕ}
 use lib.IntN.{ℤ, negsuc}
 use Rattle.std.specs.Prelude.{Ok}
-use Rattle.row.specs.Answer.{Answer, at, refused}
+use Rattle.row.specs.Answer.{Answer, refused}
 use Rattle.row.specs.Gates.{handle_gate, through}
 use Rattle.bp_spec.specs.SearchPair.{Searches, defined}
 use Rattle.bp_spec.specs.SearchCalls.{outward}

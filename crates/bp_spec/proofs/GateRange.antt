@@ -9,10 +9,9 @@ use mathlib.Core.Path.{◌≡◌, refl}
 use mathlib.Core.Bool.{Bool, true, false, cond, ◌&&◌}
 use mathlib.Core.List.{List}
 use Prim.Native.Nat.{ℕ, ◌*◌, ◌%◌}
-use native.Mathlib.Omega.{arith}
 use lib.Dec.{ltb, leb, eqb}
 use Rattle.row.specs.Limits.{max_bits}
-use Rattle.row.specs.declared.refusal.Refusal.TheVariants.{BlockSize as BadBlock, TooManyBits, TooFewWords, TooFewNodes, NotAHandle}
+use Rattle.row.specs.declared.refusal.Refusal.TheVariants.{NotAHandle}
 use Rattle.row.specs.Gates.{Gate}
 use Rattle.std.specs.Prelude.{Ok, Err}
 use Rattle.row.specs.Answer.{Answer, number_of}
@@ -20,6 +19,7 @@ use Rattle.row.specs.Gates.{words_for, row_gate, handle_gate, through, and_then}
 use Rattle.row.specs.Tree.{opens, Handle}
 use Rattle.mmt_layout.specs.Layout.{width, count, block_gate, room_gate, nodes_gate, max_block}
 use Rattle.bp_spec.specs.Ranges.{May, Among}
+use Rattle.bp_spec.proofs.Gates.{then_passed, handle_opens}
 
 -- ---- the numbers of each gate
 -- The gate passes, or refuses by one of the listed numbers.
@@ -38,16 +38,13 @@ module _ (l : List ℕ) where
 
   pub refused_row : (w n : ℕ) → Among 2 l → Among 3 l → RefusedBy l (row_gate w n)
   unfolding row_gate
-  refused_row w n p q =
-      let words = cond (leb (words_for n) w) (Ok tt) (Err TooFewWords) in
-      refused_cond (leb n max_bits) words (Err TooManyBits) (refused_cond (leb (words_for n) w) (Ok tt) (Err TooFewWords) tt q) p
+  refused_row w n p q = refused_cond (leb n max_bits) _ _ (refused_cond (leb (words_for n) w) (Ok tt) _ tt q) p
 
   pub refused_nodes : (w n t B : ℕ) → Among 1 l → Among 2 l → Among 3 l → Among 4 l → RefusedBy l (nodes_gate w n t B)
   unfolding nodes_gate block_gate room_gate
   refused_nodes w n t B p q r u =
-      refused_then (block_gate B) (and_then (row_gate w n) (room_gate n t B))
-      (refused_cond (ltb 0 B && leb B max_block && eqb (B % 8) 0) (Ok tt) (Err BadBlock) tt p)
-      (refused_then (row_gate w n) (room_gate n t B) (refused_row w n q r) (refused_cond (leb (width * count n B) t) (Ok tt) (Err TooFewNodes) tt u))
+      refused_then (block_gate B) _ (refused_cond (ltb 0 B && leb B max_block && eqb (B % 8) 0) (Ok tt) _ tt p)
+      (refused_then (row_gate w n) _ (refused_row w n q r) (refused_cond (leb (width * count n B) t) (Ok tt) _ tt u))
 
   pub refused_handle : (ws : List ℕ) (n v : ℕ) → Among 5 l → RefusedBy l (handle_gate ws n v)
   unfolding handle_gate
@@ -59,10 +56,4 @@ module _ (l : List ℕ) where
 
 -- A position whose test passes is a handle.
 pub handle_of : (ws : List ℕ) (n v : ℕ) (g : Gate) → and_then g (handle_gate ws n v) ≡ (Ok tt) → Handle ws n v
-unfolding handle_gate
-handle_of ws n v (Err k) e = let z : ◌≡◌ {A = ℕ} 0 1 = cc in absurd (omega arith)
-handle_of ws n v (Ok tt) e = go (opens ws n v) e
-  where
-    go : (t : Bool) → ◌≡◌ {A = Gate} (cond t (Ok tt) (Err NotAHandle)) (Ok tt) → t ≡ true
-    go true q = refl
-    go false q = let z : ◌≡◌ {A = ℕ} 0 1 = cc in absurd (omega arith)
+handle_of ws n v g e = handle_opens ws n v (then_passed g (handle_gate ws n v) e).1

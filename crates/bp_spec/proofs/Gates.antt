@@ -10,7 +10,6 @@ use mathlib.Core.Path.{◌≡◌, refl, sym, ◌∙◌}
 use mathlib.Core.Bool.{Bool, true, false, cond}
 use mathlib.Core.List.{List}
 use Prim.Native.Nat.{ℕ, ◌*◌, ◌≤◌, ◌<◌}
-use native.Mathlib.Omega.{arith}
 use borrow.Author.Tests.{ltb-true}
 use lib.Dec.{ltb, eqb}
 use lib.ListN.{length}
@@ -37,7 +36,7 @@ module _ {A : Type 0} {r : Result A Refusal} {g : Gate} (e : gate_of r ≡ g) wh
 -- ---- gates that pass
 pub then_passed : (g h : Gate) → and_then g h ≡ (Ok tt) → (g ≡ (Ok tt)) × (h ≡ (Ok tt))
 then_passed (Ok tt) h e = (refl, e)
-then_passed (Err k) h e = let z : ◌≡◌ {A = ℕ} 0 1 = cc in absurd (omega arith)
+then_passed (Err k) h e = (cc, cc)
 
 module _ (ws : List ℕ) (n v : ℕ) where
   pub handle_opens : handle_gate ws n v ≡ (Ok tt) → opens ws n v ≡ true
@@ -46,7 +45,7 @@ module _ (ws : List ℕ) (n v : ℕ) where
     where
       go : (t : Bool) → ◌≡◌ {A = Gate} (cond t (Ok tt) (Err NotAHandle)) (Ok tt) → t ≡ true
       go true e = refl
-      go false e = let z : ◌≡◌ {A = ℕ} 0 1 = cc in absurd (omega arith)
+      go false e = cc
 
   pub handle_inside : handle_gate ws n v ≡ (Ok tt) → v < n
   unfolding opens

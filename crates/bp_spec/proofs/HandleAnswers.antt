@@ -25,7 +25,6 @@ use Rattle.mmt_layout.specs.Layout.{nodes_gate, Fine}
 use Rattle.mmt_layout.specs.Parts.{HasParts}
 use Rattle.mmt_layout.proofs.Gates.{gate_fine}
 use Rattle.mmt_node.specs.Nodes.{AsBuilt}
-use native.Mathlib.Omega.{arith}
 use Rattle.bp_spec.proofs.Gates.{gate_ok, gate_err, then_passed, handle_inside, handle_opens}
 use Rattle.bp_spec.specs.SearchCalls.{Promise}
 use Rattle.bp_spec.specs.SearchPair.{Searches, walked, defined, on_row}
@@ -54,7 +53,7 @@ module _ (ws : List ℕ) (n : ℕ) (s : List ℤ) (B : ℕ) where
   -- ---- a call with refusals 1 to 4 and no further test, with the answer x by the walk and d by definition
   module _ (x d : Answer) {r : Result Admitted Refusal} (g : gate_of r ≡ gate) where
     pub plain_err : {k : Refusal} → r ≡ Err k → Promise ws n s B (through gate x) d (refused (number_of k))
-    plain_err e = let q = gate_err g e in record { answer = rw q; as_built = λ o b. let z : ◌≡◌ {A = ℕ} 0 1 = cc in absurd (omega arith) }
+    plain_err e = let q = gate_err g e in record { answer = rw q; as_built = λ o b. cc }
 
     pub plain_ok : {t : Admitted} → r ≡ Ok t → {a : Answer} → a ≡ x → (gate ≡ (Ok tt) → AsBuilt ws n s B → x ≡ d) → Promise ws n s B (through gate x) d a
     plain_ok e f h = let q = gate_ok g e in record { answer = rw q f; as_built = λ o b. f ∙ h o b }

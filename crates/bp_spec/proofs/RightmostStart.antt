@@ -14,7 +14,7 @@ use mathlib.Core.List.{List}
 use Prim.Native.Nat.{ℕ, zero, suc, ◌+◌, ◌-◌, ◌*◌, ◌≤◌, ◌<◌}
 use native.Mathlib.Omega.{arith}
 use native.Mathlib.Decide.{dec_lt}
-use borrow.Author.Tests.{ltb-false, eq-eqb, ne_eqb}
+use borrow.Author.Tests.{ltb-false, ne_eqb}
 use lib.Dec.{ltb, eqb}
 use lib.IntN.{ℤ, pos, negsuc, ◌+ℤ◌, ◌-ℤ◌}
 use Rattle.row.specs.Limits.{max_bits}
@@ -115,19 +115,15 @@ row_start n (suc o) g h =
     go true e = refl
     go false e = sym (h (2 * suc o - 1) (ltb-false (2 * suc o - 1) n e))
 
-no_ones : (ws : List ℕ) (n : ℕ) → n ≡ 0 → ones ws n ≡ 0
-unfolding ones
-no_ones ws n z = rw z
-
 module _ (ws : List ℕ) (n : ℕ) (s : List ℤ) (B : ℕ) (pB : 0 < B) (short : n ≤ max_bits) (built : AsBuilt ws n s B) where
   -- The steps of `level_rightmost` after its start.
   abbrev on_from : ℕ → ℕ → Answer
   on_from k x = onward (bwd ws n x (pos k)) (open_of (defined ws n))
 
   same_start : (k : ℕ) → Dec (0 < n) → onward (root_start n s) (on_from k) ≡ onward (last_start ws n) (on_from k)
-  unfolding last_start root_start
+  unfolding last_start root_start ones
   same_start k (yes p) = rw (start_is ws n s B pB short built p) (row_start n (ones ws n) (on_from k) (λ x h. rw (bwd_past ws n x (pos k) h)))
-  same_start k (no p) = let z : n ≡ 0 = omega arith in rw (eq-eqb n 0 z, eq-eqb (ones ws n) 0 (no_ones ws n z))
+  same_start k (no p) = let z : n ≡ 0 = omega arith in rw z
 
   pub rightmost_right : (k : ℕ) → level_rightmost ws n (defined ws n) (root_start n s) k ≡ level_rightmost ws n (defined ws n) (last_start ws n) k
   unfolding level_rightmost

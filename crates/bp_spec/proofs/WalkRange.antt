@@ -14,7 +14,6 @@ use native.Mathlib.Omega.{arith}
 use borrow.Author.Tests.{ltb-true, eqb-false}
 use lib.Dec.{ltb, eqb}
 use lib.IntN.{ℤ, pos, negsuc, ◌+ℤ◌, ◌-ℤ◌}
-use Rattle.ints.specs.Order.{eq_z}
 use Rattle.row.specs.Answer.{Answer, at, nothing, refused}
 use Rattle.row.specs.Bits.{bit_at}
 use Rattle.row.specs.Search.{fwd, bwd}
@@ -22,13 +21,15 @@ use Rattle.row.specs.Way.{Way, forward, backward}
 use Rattle.row.proofs.Meaning.{IsFwd, IsBwd, fwd_is, bwd_is}
 use Rattle.bits_stretch.specs.Scan.{Scanned}
 use Rattle.std.specs.declared.ops.ControlFlow.TheVariants.{Break, Continue}
-use Rattle.bits_stretch.specs.Scan.{less, scan}
+use Rattle.bits_stretch.specs.Scan.{scan}
+use Rattle.bits_stretch.proofs.Meets.{hit_within}
 use Rattle.mmt_layout.specs.Layout.{inner, count}
 use Rattle.mmt_node.specs.Nodes.{node_at}
 use Rattle.walk_spec.specs.Walk.{fits, Climb, turn, out, misfit, climb, Descent, leaf, lost, descend, found, far, ends_at_once, start_block, start_scan, in_leaf, land, after_climb, in_start, walk}
 use Rattle.walk_spec.proofs.Right.{inside}
 use Rattle.bp_spec.specs.LevelEnds.{ones, last_start, in_row, root_start}
 use Rattle.bp_spec.specs.Ranges.{May}
+use Rattle.bp_spec.proofs.CallRange.{may_cond}
 
 -- ---- a scan
 -- A position that the scan hit is below t.
@@ -36,21 +37,14 @@ abbrev Inside : ℕ → Scanned → Type 0
 Inside t (Break j) = j < t
 Inside t (Continue q) = Unit
 
-inside_cond : (t x : ℕ) (b : Bool) (y : Scanned) → x < t → Inside t y → Inside t (cond b (Break x) y)
-inside_cond t x true y h g = h
-inside_cond t x false y h g = g
-
 scan_inside : (w : Way) (f : ℕ → ℕ) (c a t : ℕ) (r : ℤ) → (0 < c → a + c ≤ t) → Inside t (scan w f c a r)
 unfolding scan
 scan_inside w f zero a t r h = tt
-scan_inside forward f (suc c) a t r h =
-    let g = h (omega arith) in
-    let q = less forward r (f a) in
-    inside_cond t a (eq_z q (pos 0)) (scan forward f c (suc a) q) (omega arith) (scan_inside forward f c (suc a) t q (λ u. omega arith))
-scan_inside backward f (suc c) a t r h =
-    let g = h (omega arith) in
-    let q = less backward r (f (a + c)) in
-    inside_cond t (a + c) (eq_z q (pos 0)) (scan backward f c a q) (omega arith) (scan_inside backward f c a t q (λ u. omega arith))
+scan_inside w f (suc c) a t r h = go (scan w f (suc c) a r) refl
+  where
+    go : (x : Scanned) → x ≡ scan w f (suc c) a r → Inside t x
+    go (Break j) e = omega (arith, h (omega arith), hit_within w f (suc c) a r e)
+    go (Continue q) e = tt
 
 -- ---- the walk
 module _ (w : Way) (ws : List ℕ) (n : ℕ) (s : List ℤ) (B : ℕ) where
@@ -116,21 +110,14 @@ module _ (ws : List ℕ) (n i : ℕ) (r : ℤ) (l : List ℕ) where
 
 -- ---- where level_rightmost starts
 in_row_may : (n : ℕ) (z : ℤ) (l : List ℕ) → May n l (in_row n z)
-in_row_may n (pos i) l = go (ltb i n) refl
-  where
-    go : (t : Bool) → ltb i n ≡ t → May n l (cond t (at i) nothing)
-    go true e = ltb-true i n e
-    go false e = tt
+in_row_may n (pos i) l = may_cond l n (ltb i n) (at i) nothing (ltb-true i n) tt
 in_row_may n (negsuc i) l = tt
 
 pub root_may : (n : ℕ) (s : List ℤ) → May n (8 ∷ []) (root_start n s)
 unfolding root_start
-root_may n s = go (eqb n 0) (fits (node_at s 0))
-  where
-    go : (t u : Bool) → May n (8 ∷ []) (cond t nothing (cond u (in_row n (pos n +ℤ (node_at s 0).total -ℤ pos 1)) (refused 8)))
-    go true u = tt
-    go false true = in_row_may n (pos n +ℤ (node_at s 0).total -ℤ pos 1) (8 ∷ [])
-    go false false = Memᴰ.head refl
+root_may n s =
+    may_cond (8 ∷ []) n (eqb n 0) nothing _ (λ e. tt)
+    (may_cond (8 ∷ []) n (fits (node_at s 0)) _ (refused 8) (λ e. in_row_may n (pos n +ℤ (node_at s 0).total -ℤ pos 1) (8 ∷ [])) (Memᴰ.head refl))
 
 pub last_may : (ws : List ℕ) (n : ℕ) (l : List ℕ) → May (2 * ones ws n) l (last_start ws n)
 unfolding last_start

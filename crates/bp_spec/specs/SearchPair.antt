@@ -3,7 +3,7 @@
 use Rattle.std.specs.Prelude.{List, ℕ, ℤ, negsuc}
 use Rattle.row.specs.Answer.{Answer, at, nothing, refused}
 use Rattle.row.specs.Search as search
-use Rattle.row.specs.Way.{forward, backward}
+use Rattle.row.specs.Way.{Way, forward, backward}
 use Rattle.mmt_layout.specs.declared.admitted.Admitted.{Admitted}
 use Rattle.walk_spec.specs.Walk.{walk}
 
@@ -19,6 +19,10 @@ walked ws n s B = record { fwd = λ i r. (walk forward ws n s B i r).answer; bwd
 -- The searches by the walk over an admitted row.
 abbrev pub walked_on : Admitted → Searches
 walked_on t = walked t.words.now t.n t.nodes.now t.block
+
+-- One of these searches, in the direction w.
+abbrev pub walked_to : Way → Admitted → ℕ → ℤ → Answer
+walked_to w t i r = (walk w t.words.now t.n t.nodes.now t.block i r).answer
 
 -- A call over an admitted row, by the walk.
 abbrev pub on_row : {A : Type 0} → (List ℕ → ℕ → Searches → A) → Admitted → A

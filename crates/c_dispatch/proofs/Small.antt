@@ -4,10 +4,8 @@
 --   answer_small: the answer of every call
 --   read_small: the answer of the text reader
 --   small_as: an answer that equals a small one is small
---   crossed: the i64 that `wire` returns for an answer is the number of every equal answer
---   answered: the same for the answer to a question
 -- Assumes nothing.
-use mathlib.Core.Path.{◌≡◌, refl, ap, sym, ◌∙◌}
+use mathlib.Core.Path.{◌≡◌, refl}
 use mathlib.Core.Bool.{Bool, true, false}
 use mathlib.Core.List.{List}
 use Prim.Native.Nat.{◌+◌, ℕ, ◌≤◌}
@@ -16,9 +14,6 @@ use borrow.Author.Tests.{leb-true, leb-false}
 use lib.Dec.{leb}
 use lib.IntN.{ℤ}
 use lib.ListN.{length}
-use mir.Syntax.{w64}
-use mir.Val.{SFits, to_z, of_z}
-use mir.ValLaws.{to_z-of_z}
 use Rattle.row.specs.Limits.{max_bits}
 use Rattle.row.specs.Gates.{Gate}
 use Rattle.std.specs.Prelude.{Ok, Err}
@@ -32,7 +27,7 @@ use Rattle.bp_spec.specs.Questions.{promised}
 use Rattle.bp_spec.specs.Ranges.{kind, refusals, May}
 use Rattle.bp_spec.proofs.AnswerRange.{answers_may}
 use Rattle.bp_spec.proofs.ManyBits.{IsRefusal, many_refused}
-use Rattle.wire.specs.Answer.{wire_of, Small}
+use Rattle.wire.specs.Answer.{Small}
 
 may_small : (b : ℕ) (l : List ℕ) (a : Answer) → b ≤ (max_bits + 1) → May b l a → Small a
 may_small b l (at x) h m = omega arith
@@ -82,13 +77,5 @@ read_small text ws = go (text_gate text (length ws)) refl
     go (Ok tt) e = let f = text_fits text (length ws) e in omega arith
     go (Err k) e = Prim.tt {0}
 
--- ---- from an answer to its number on the wire
 pub small_as : {a b : Answer} → a ≡ b → Small b → Small a
 small_as e h = rw e h
-
-pub crossed : {z : ℤ} {a b : Answer} → SFits w64 z → z ≡ wire_of a → a ≡ b → to_z w64 (of_z w64 z) ≡ wire_of b
-crossed {z} f e g = to_z-of_z w64 z f ∙ e ∙ ap wire_of g
-
-pub answered : {Q : Type 0} (f : Q → Answer) {q p : Q} {z : ℤ} {a : Answer}
-    → q ≡ p → SFits w64 z → z ≡ wire_of a → a ≡ f p → to_z w64 (of_z w64 z) ≡ wire_of (f q)
-answered f e s h g = crossed s h (g ∙ sym (ap f e))

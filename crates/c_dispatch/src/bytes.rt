@@ -24,6 +24,7 @@ pub fn over_bytes(row: &[u8], bits: u64, nodes: &[u8], block: u64, request: Requ
 }
 
 // Answers a request that needs no node buffer.
+#[tactic(auto, unfolding(wire::specs::Bytes::tabulate))]
 pub fn over_row(row: &[u8], bits: u64, request: Request) -> i64
     ensures { result ≡ row_answer requested row.now bits request }
 {

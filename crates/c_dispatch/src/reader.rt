@@ -10,6 +10,7 @@ ghost use Rattle.c_dispatch.specs.Reader.{left_row, read_wire, read_bytes};
 use row::Refusal;
 
 // Reads the text into `words`, then writes the words that the bits need to the front of `row`.
+#[tactic(auto, using(crate::proofs::Reading::through_steps))]
 fn read_through(text: &[u8], words: &mut [u64], row: &mut [u8]) -> i64
     requires { 8 * length words.old ≤ length row.old }
     ensures { Writes result (wire_of (through (text_gate text.now (length words.old)) (at (length text.now))))
@@ -26,6 +27,7 @@ fn read_through(text: &[u8], words: &mut [u64], row: &mut [u8]) -> i64
 
 // Reads a text of at most 4,096 bytes into `row` and returns the bit count. Bytes after the needed words are unchanged; a refusal leaves all
 // bytes unchanged.
+#[tactic(auto, using(crate::proofs::Reading::text_steps))]
 pub fn read_text(text: &[u8], row: &mut [u8]) -> i64
     ensures { Writes result (read_wire text.now row.old)
         row.new (read_bytes text.now row.old) }

@@ -1,6 +1,7 @@
 -- What a listing answers as one i64, and what it writes as bytes.
 --   count_low: the count is at most 2^32 + 2
 --   bytes_refused, bytes_passed: the bytes after a refused constructor, and after the answers are written
+--   bytes_enough, bytes_taken: the array has as many numbers as the count says
 --   room_enough: the array has room for all answers of a row of 4,096 bits
 --   count_cut, bytes_cut: a room cut to the size of the array gives the same count and the same bytes
 -- Assumes nothing.
@@ -13,7 +14,7 @@ use native.Mathlib.Decide.{dec_lt}
 use borrow.Author.Tests.{le-leb, lt-leb}
 use lib.IntN.{ℤ}
 use lib.ListN.{length, take, drop, length-append, length-map}
-use lib.Seq.{take_at}
+use lib.Seq.{take_at, length-take-le}
 use Rattle.row.specs.Limits.{max_bits, max_short_bits}
 use Rattle.row.specs.Answer.{Answer, at, nothing, refused}
 use Rattle.wire.specs.Answer.{wire_of}
@@ -54,8 +55,8 @@ module _ (rising : Bool) (ws : List ℕ) (n : ℕ) (s : List ℤ) (B v : ℕ) wh
       where
         go : (a : Answer) → refused k ≡ unless_refused a (at (length l)) refused
             → out ≡ unless_refused a (numbers_over (map wire_of l) out) (λ _. out)
-        go (at u) e = let z : ◌≡◌ {A = ℕ} 0 1 = cc in absurd (omega arith)
-        go nothing e = let z : ◌≡◌ {A = ℕ} 0 1 = cc in absurd (omega arith)
+        go (at u) e = cc
+        go nothing e = cc
         go (refused j) e = refl
 
   module _ (c : ℕ) (xs ys : List ℤ) (out : List ℕ) where
@@ -66,10 +67,10 @@ module _ (rising : Bool) (ws : List ℕ) (n : ℕ) (s : List ℤ) (B v : ℕ) wh
       rw f (take_at zs (drop (length zs) xs) c (sym e)),
     )
 
-    pub bytes_passed : at c ≡ count_of rising ws n s B v (length xs) → ys ≡ left_of rising ws n s B v xs
+    both : at c ≡ count_of rising ws n s B v (length xs) → ys ≡ left_of rising ws n s B v xs
         → (c ≤ length ys) × (numbers_over (take c ys) out ≡ listed_bytes rising ws n s B v (length xs) out)
     unfolding count_of left_of listed_bytes
-    bytes_passed = go (sought rising ws n s B v)
+    both = go (sought rising ws n s B v)
       where
         zs : List ℤ
         zs = map wire_of (answers_of rising ws n s B v (length xs))
@@ -82,14 +83,27 @@ module _ (rising : Bool) (ws : List ℕ) (n : ℕ) (s : List ℤ) (B v : ℕ) wh
             → (c ≤ length ys) × (numbers_over (take c ys) out ≡ unless_refused a (numbers_over zs out) (λ _. out))
         go (at u) e f = let p = front zs (counts e) f in (p.0, ap (λ x. numbers_over x out) p.1)
         go nothing e f = let p = front zs (counts e) f in (p.0, ap (λ x. numbers_over x out) p.1)
-        go (refused k) e f = let z : ◌≡◌ {A = ℕ} 0 1 = cc in absurd (omega arith)
+        go (refused k) e f = cc
+
+    module _ (p : at c ≡ count_of rising ws n s B v (length xs)) (q : ys ≡ left_of rising ws n s B v xs) where
+      pub bytes_enough : c ≤ length ys
+      bytes_enough = (both p q).0
+
+      pub bytes_taken : c ≡ length (take c ys)
+      bytes_taken = sym (length-take-le c ys bytes_enough)
+
+      pub bytes_passed : numbers_over (take c ys) out ≡ listed_bytes rising ws n s B v (length xs) out
+      bytes_passed = (both p q).1
+
+-- The laws for the proof of `put_listing`.
+pub ruleset put_steps = (count_low, bytes_refused, bytes_enough, bytes_taken, bytes_passed)
 
 -- For the bit count of a call over bytes, with the room cut to 4,098 answers.
-module _ (rising : Bool) (ws : List ℕ) (bits : ℕ) (s : List ℤ) (B v c n t : ℕ) (e : n ≡ wire_bits bits) (f : t ≡ min c answer_room) where
-  pub count_cut : count_of rising ws n s B v t ≡ count_of rising ws (wire_bits bits) s B v c
+module _ (rising : Bool) (ws : List ℕ) (bits : ℕ) (s : List ℤ) (B v c : ℕ) where
+  pub count_cut : count_of rising ws (wire_bits bits) s B v (min c answer_room) ≡ count_of rising ws (wire_bits bits) s B v c
   unfolding count_of
-  count_cut = rw (e, f) (room_cut rising ws (wire_bits bits) s B v (λ l. at (length l)) refused c answer_room (room_enough bits))
+  count_cut = room_cut rising ws (wire_bits bits) s B v (λ l. at (length l)) refused c answer_room (room_enough bits)
 
-  pub bytes_cut : (out : List ℕ) → listed_bytes rising ws n s B v t out ≡ listed_bytes rising ws (wire_bits bits) s B v c out
+  pub bytes_cut : (out : List ℕ) → listed_bytes rising ws (wire_bits bits) s B v (min c answer_room) out ≡ listed_bytes rising ws (wire_bits bits) s B v c out
   unfolding listed_bytes
-  bytes_cut out = rw (e, f) (room_cut rising ws (wire_bits bits) s B v (λ l. numbers_over (map wire_of l) out) (λ _. out) c answer_room (room_enough bits))
+  bytes_cut out = room_cut rising ws (wire_bits bits) s B v (λ l. numbers_over (map wire_of l) out) (λ _. out) c answer_room (room_enough bits)

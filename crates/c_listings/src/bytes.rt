@@ -11,6 +11,7 @@ ghost use Rattle.list_slice.specs.WholeListing.{count_of};
 ghost use Rattle.c_listings.specs.Listings.{listed_bytes, list_wire, list_left};
 
 // Lists into `answers`, then writes the answers to the front of `out`.
+#[tactic(auto, using(crate::proofs::Listed::put_steps))]
 fn put_listing(
     words: &[u64],
     n: usize,
@@ -36,6 +37,7 @@ fn put_listing(
 }
 
 // Lists over decoded words and node numbers, and writes the answers to `out`.
+#[tactic(auto, using(std::proofs::lemmas::Grind::common_steps, crate::proofs::Listed::count_cut, crate::proofs::Listed::bytes_cut))]
 fn list_decoded(
     words: &[u64],
     bits: u64,

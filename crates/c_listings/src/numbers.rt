@@ -8,6 +8,7 @@ ghost use Rattle.wire.specs.Answer.{wire_of};
 ghost use Rattle.list_slice.specs.WholeListing.{count_of, left_of};
 
 // Writes the children of `node` to `out`, rising or falling. Returns the number of answers written, or the refusal.
+#[tactic(auto, using(crate::proofs::Listed::count_low))]
 pub fn to_numbers(
     words: &[u64],
     bits: u64,

@@ -17,6 +17,7 @@ use c_dispatch::Request;
 mod call;
 
 // Builds the min-max nodes of the row and writes them to `nodes`. Bytes after the nodes are unchanged; a refusal leaves all bytes unchanged.
+#[tactic(auto, using(crate::proofs::Passed::bytes_steps))]
 #[unsafe(no_mangle)]
 pub extern "C" fn bp_build(row: &[u8], bits: u64, nodes: &mut [u8], block: u64) -> i64
     ensures { Writes result (build_wire row.now bits nodes.old block)

@@ -80,7 +80,7 @@ read_may text ws = go (leb (length text) max_bits) refl (all_parentheses text)
 
 -- If the answer after a gate is a refusal, the old content is kept.
 keeps : {A : Type 0} (g : Gate) (x k : ℕ) (new old : A) → through g (at x) ≡ refused k → kept g new old ≡ old
-keeps (Ok tt) x k new old e = let z : ◌≡◌ {A = ℕ} 0 1 = cc in absurd (omega arith)
+keeps (Ok tt) x k new old e = cc
 keeps (Err j) x k new old e = refl
 
 build_leaves : (ws : List ℕ) (n : ℕ) (s : List ℤ) (B k : ℕ) → build_answer ws n s B ≡ refused k → built_nodes ws n s B ≡ s

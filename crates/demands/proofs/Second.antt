@@ -45,11 +45,11 @@ tells fact true f g = record {
   if_so = λ x. refl;
   so = λ e. f refl;
   if_not = λ x. absurd (x (f refl));
-  not_so = λ e x. let z : ◌≡◌ {A = ℕ} 0 1 = cc in omega arith;
+  not_so = λ e x. (cc);
 }
 tells fact false f g = record {
   if_so = λ x. absurd (never_true (g x));
-  so = λ e. let z : ◌≡◌ {A = ℕ} 0 1 = cc in absurd (omega arith);
+  so = λ e. cc;
   if_not = λ x. refl;
   not_so = λ e x. never_true (g x);
 }

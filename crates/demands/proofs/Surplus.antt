@@ -84,7 +84,7 @@ done_same ws vs n s t B same room = ap (λ (g : Gate). through g (at 0)) (nodes_
 -- If the answer after a gate is no refusal, the gate passes.
 open_at : (g : Gate) → through g (at 0) ≡ at 0 → g ≡ (Ok tt)
 open_at (Ok tt) e = refl
-open_at (Err k) e = let z : ◌≡◌ {A = ℕ} 0 1 = cc in absurd (omega arith)
+open_at (Err k) e = cc
 
 front : (ws : List ℕ) (n : ℕ) (s : List ℤ) (B : ℕ) → build_answer ws n s B ≡ at 0 → take (width * count n B) (built_nodes ws n s B) ≡ written ws n B
 unfolding built_nodes

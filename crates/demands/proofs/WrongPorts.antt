@@ -9,7 +9,6 @@ use mathlib.Core.Path.{◌≡◌, refl, sym, ◌∙◌}
 use mathlib.Core.Bool.{true, false}
 use mathlib.Core.List.{List, [], ◌∷◌}
 use Prim.Native.Nat.{ℕ}
-use native.Mathlib.Omega.{arith}
 use lib.IntN.{ℤ, pos, negsuc}
 use Rattle.ints.specs.Order.{eq_z, min_z, max_z}
 use Rattle.ints.proofs.Linear.{never_true}
@@ -47,21 +46,18 @@ module _ (ask : Question → Answer) (right : Answers T 8 ask) where
   refusing f =
       let r = f (FwdSearch 0 (negsuc 0)) in
       let e : refused r.0 ≡ at 7 = sym r.1 ∙ right.equal (FwdSearch 0 (negsuc 0)) ∙ closes_at_7 in
-      let z : ◌≡◌ {A = ℕ} 0 1 = cc in
-      omega arith
+      cc
 
   pub silent : ((q : Question) → ask q ≡ nothing) → ⊥
   silent f =
       let e : nothing ≡ at 7 = sym (f (FwdSearch 0 (negsuc 0))) ∙ right.equal (FwdSearch 0 (negsuc 0)) ∙ closes_at_7 in
-      let z : ◌≡◌ {A = ℕ} 0 1 = cc in
-      omega arith
+      cc
 
   pub fixed : (j : ℕ) → ((q : Question) → ask q ≡ at j) → ⊥
   fixed j f =
       let a : at j ≡ at 7 = sym (f (FwdSearch 0 (negsuc 0))) ∙ right.equal (FwdSearch 0 (negsuc 0)) ∙ closes_at_7 in
       let b : at j ≡ at 1 = sym (f (FwdSearch 0 (pos 1))) ∙ right.equal (FwdSearch 0 (pos 1)) ∙ next_is_1 in
-      let z : ◌≡◌ {A = ℕ} 7 1 = cc in
-      omega arith
+      cc
 
 -- The row `))` is not one tree, and six zeros are not the nodes of T.
 pub tree_no : one_tree_answer (0 ∷ []) 2 ≡ at 0
@@ -95,5 +91,4 @@ pub ended : (ask : Question → Answer) → Tours T 8 ask → ((v : ℕ) → ask
 ended ask t f =
     let l = rw two_children at (t.children_rise 0 root_opens) in
     let e : nothing ≡ at 3 = sym (f 1) ∙ l.1.0 in
-    let z : ◌≡◌ {A = ℕ} 0 1 = cc in
-    omega arith
+    cc

@@ -7,95 +7,62 @@
 --   bits_eq_z: a comparison of the 64 bits of two signed numbers gives what `eq_z` gives
 --   le_test: if a <= b holds, the test `le_z a b` is true
 -- Assumes nothing.
-use mathlib.Core.Path.{◌≡◌, refl, ap}
-use mathlib.Core.Bool.{Bool, true, false, cond}
+use mathlib.Core.Path.{◌≡◌, refl}
+use mathlib.Core.Bool.{true, false}
 use Prim.Native.Nat.{ℕ, ◌+◌, ◌≤◌, min, max}
-use borrow.Author.Tests.{eqb-true, eqb-false, eq-eqb, ne_eqb}
-use lib.Dec.{T, eqb}
-use lib.IntN.{ℤ, pos, negsuc}
-use lib.Signed.{lt_z, le_z, ◌≤ℤ◌}
+use lib.Dec.{eqb}
+use lib.IntN.{ℤ}
+use lib.Signed.{le_z, ◌≤ℤ◌}
 use mir.Syntax.{w64}
 use mir.Val.{SFits, of_z}
 use Rattle.std.specs.Int.{int_min, int_max}
 use Rattle.ints.specs.Sides.{up, dn, size}
 use Rattle.ints.specs.Order.{min_z, max_z, eq_z}
+use native.Mathlib.Omega.{arith}
 use Rattle.ints.proofs.Linear.{bits_≡}
 use Rattle.ints.proofs.Shapes.{zsum}
 
 pub min_ud : (a b : ℤ) → up (min_z a b) + (dn a + dn b) ≡ min (up a + dn b) (up b + dn a) + dn (min_z a b)
 unfolding min_z
-min_ud a b = go (lt_z b a) refl
-  where
-    go : (t : Bool) → lt_z b a ≡ t → up (cond t b a) + (dn a + dn b) ≡ min (up a + dn b) (up b + dn a) + dn (cond t b a)
-    go true e = omega zsum
-    go false e = omega zsum
+min_ud a b = grind zsum
 
 pub max_ud : (a b : ℤ) → up (max_z a b) + (dn a + dn b) ≡ max (up a + dn b) (up b + dn a) + dn (max_z a b)
 unfolding max_z
-max_ud a b = go (lt_z a b) refl
-  where
-    go : (t : Bool) → lt_z a b ≡ t → up (cond t b a) + (dn a + dn b) ≡ max (up a + dn b) (up b + dn a) + dn (cond t b a)
-    go true e = omega zsum
-    go false e = omega zsum
+max_ud a b = grind zsum
 
 pub min_same : (a b : ℤ) → int_min a b ≡ min_z a b
 unfolding min_z
 min_same a b = refl
 
 pub max_same : (a b : ℤ) → int_max a b ≡ max_z a b
-max_same a b = go (lt_z b a) refl
-  where
-    go : (t : Bool) → lt_z b a ≡ t → cond t a b ≡ max_z a b
-    go true e = omega (zsum, max_ud a b)
-    go false e = omega (zsum, max_ud a b)
+unfolding max_z
+max_same a b = grind zsum
 
 pub min_size : (a b : ℤ) (m : ℕ) → size a ≤ m → size b ≤ m → size (min_z a b) ≤ m
 unfolding min_z
-min_size a b m p q = elim (lt_z b a) as (λ t. size (cond t b a) ≤ m) [ true ↦ q | false ↦ p ]
+min_size a b m p q = grind arith
 
 pub max_size : (a b : ℤ) (m : ℕ) → size a ≤ m → size b ≤ m → size (max_z a b) ≤ m
 unfolding max_z
-max_size a b m p q = elim (lt_z a b) as (λ t. size (cond t b a) ≤ m) [ true ↦ q | false ↦ p ]
+max_size a b m p q = grind arith
 
 pub eq_z_true : (a b : ℤ) → eq_z a b ≡ true → a ≡ b
 unfolding eq_z
-eq_z_true (pos a) (pos b) e = ap pos (eqb-true a b e)
-eq_z_true (pos a) (negsuc b) e = absurd (omega zsum)
-eq_z_true (negsuc a) (pos b) e = absurd (omega zsum)
-eq_z_true (negsuc a) (negsuc b) e = ap negsuc (eqb-true a b e)
+eq_z_true a b e = grind zsum
 
 pub eq_z_false : (a b : ℤ) → eq_z a b ≡ false → a ≡ b → ⊥
 unfolding eq_z
-eq_z_false (pos a) (pos b) e q = eqb-false a b e (omega zsum)
-eq_z_false (pos a) (negsuc b) e q = omega zsum
-eq_z_false (negsuc a) (pos b) e q = omega zsum
-eq_z_false (negsuc a) (negsuc b) e q = eqb-false a b e (omega zsum)
+eq_z_false a b e q = grind zsum
 
 pub eq_z_yes : (a b : ℤ) → a ≡ b → eq_z a b ≡ true
-eq_z_yes a b q = go (eq_z a b) refl
-  where
-    go : (t : Bool) → eq_z a b ≡ t → eq_z a b ≡ true
-    go true h = h
-    go false h = absurd (eq_z_false a b h q)
+eq_z_yes a b q = grind (arith, eq_z_false a b)
 
 pub eq_z_no : (a b : ℤ) → (a ≡ b → ⊥) → eq_z a b ≡ false
-eq_z_no a b f = go (eq_z a b) refl
-  where
-    go : (t : Bool) → eq_z a b ≡ t → eq_z a b ≡ false
-    go true h = absurd (f (eq_z_true a b h))
-    go false h = h
+eq_z_no a b f = grind (arith, eq_z_true a b)
 
 -- The machine evaluates `==` on two signed numbers by comparing their bits.
 pub bits_eq_z : {a b : ℤ} → SFits w64 a → SFits w64 b → eqb (of_z w64 a) (of_z w64 b) ≡ eq_z a b
-bits_eq_z {a} {b} f g = go (eq_z a b) refl
-  where
-    go : (t : Bool) → eq_z a b ≡ t → eqb (of_z w64 a) (of_z w64 b) ≡ t
-    go true h = eq-eqb _ _ (ap (of_z w64) (eq_z_true a b h))
-    go false h = ne_eqb _ _ (λ e. eq_z_false a b h (bits_≡ f g e))
-
-is_true : (t : Bool) → T t → t ≡ true
-is_true true h = refl
-is_true false h = absurd h
+bits_eq_z {a} {b} f g = grind (arith, eq_z_true a b, eq_z_yes a b, bits_≡ f g)
 
 pub le_test : {a b : ℤ} → a ≤ℤ b → le_z a b ≡ true
-le_test {a} {b} h = is_true (le_z a b) h.le
+le_test {a} {b} h = grind zsum

@@ -19,7 +19,7 @@ use Rattle.row.specs.Gates.{row_gate, handle_gate, and_then, gate_of}
 use Rattle.mmt_layout.specs.declared.admitted.Admitted.{Admitted}
 use Rattle.mmt_layout.specs.Layout.{block_gate, room_gate, nodes_gate}
 use Rattle.bp_spec.specs.RowCalls.{first_child, handle_answer}
-use Rattle.bp_spec.proofs.Gates.{gate_err, then_passed}
+use Rattle.bp_spec.proofs.Gates.{gate_ok, gate_err, then_passed}
 use Rattle.bp_spec.specs.HandleCalls.{node_answer}
 use Rattle.list_slice.specs.Seek.{sought}
 
@@ -54,9 +54,10 @@ module _ (ws : List ℕ) (n : ℕ) (s : List ℤ) (B v : ℕ) where
       → refused (number_of k) ≡ sought rising ws n s B v
   sought_err rising g {k} e = sought_refused rising k (gate_err g e)
 
-  pub sought_first : (a : Answer) → tests ws n s B v ≡ (Ok tt) → a ≡ handle_answer first_child ws n v → a ≡ sought true ws n s B v
+  pub sought_first : {r : Result Admitted Refusal} → gate_of r ≡ tests ws n s B v → {t : Admitted} → r ≡ Ok t
+      → {a : Answer} → a ≡ handle_answer first_child ws n v → a ≡ sought true ws n s B v
   unfolding sought node_answer handle_answer
-  sought_first a o e = rw o (rw (tests_row o) at e)
+  sought_first g e f = let o = gate_ok g e in rw o (rw (tests_row o) at f)
 
   pub sought_passed : (rising : Bool) → Unrefused (sought rising ws n s B v) → tests ws n s B v ≡ (Ok tt)
   sought_passed rising u = go (tests ws n s B v) refl

@@ -1,9 +1,8 @@
 -- The output slice while the answers of the steps are written to it.
---   below_small: an answer below n is in the range of the wire
 --   ended, goes_on: what the test of the code for `nothing` says about the answer
 --   answers_more, answers_last: the answers from h on, if h is not `nothing`, and if it is
 --   Writing: the first i answers are written, and the listing holds h
---   writing_start, writing_step: before the first answer, and after one more
+--   writing_step: after one more answer
 --   written_full, written_ended: all answers are written if the slice is full, and if the last one was `nothing`
 --   list_err, list_ok: the promise of `list` if the constructor is refused, and if it succeeds
 --   sought_ok: what the constructor found, if it succeeds
@@ -12,27 +11,20 @@ use mathlib.Core.Path.{◌≡◌, refl, sym, ap, ◌∙◌}
 use mathlib.Core.Bool.{Bool, true, false}
 use mathlib.Core.List.{List, [], ◌∷◌, ◌++◌, map, append_assoc, append-nil}
 use Prim.Native.Nat.{ℕ, suc, ◌+◌, ◌-◌, ◌≤◌, ◌<◌}
-use native.Mathlib.Nat.{sub-zero}
 use native.Mathlib.Omega.{arith}
 use native.Mathlib.Numerals.{add-one}
 use lib.IntN.{ℤ}
 use lib.ListN.{length, take, drop, set, length-set, take-append-drop, length-map}
 use lib.Seq.{length-take-le, take-suc-set, drop-drop, drop-set-lt}
 use Rattle.row.specs.Writes.{Writes}
-use Rattle.row.specs.Limits.{max_bits}
 use Rattle.std.specs.Prelude.{Result, Ok, Err, Option, Some, None}
 use Rattle.std.specs.Result.{result_eq}
 use Rattle.std.specs.Option.{option_eq}
 use Rattle.row.specs.declared.refusal.Refusal.{Refusal}
 use Rattle.row.specs.Answer.{Answer, at, nothing, refused, number_of, paper_found}
-use Rattle.wire.specs.Answer.{wire_of, Small}
-use Rattle.list_slice.specs.Seek.{sought, held_after, Below}
+use Rattle.wire.specs.Answer.{wire_of}
+use Rattle.list_slice.specs.Seek.{sought, held_after}
 use Rattle.list_slice.specs.WholeListing.{answers, Wrote, unless_refused, count_of, left_of}
-
-pub below_small : (n : ℕ) (a : Answer) → n ≤ max_bits → Below n a → Small a
-below_small n (at v) l b = omega arith
-below_small n nothing l b = tt
-below_small n (refused k) l b = tt
 
 -- ---- the test `held == Ok(None)`
 module _ (p : ℕ → ℕ → Bool) (q : Refusal → Refusal → Bool) where
@@ -40,14 +32,14 @@ module _ (p : ℕ → ℕ → Bool) (q : Refusal → Refusal → Bool) where
   is_end f = result_eq (option_eq p) q f (Ok None)
 
   pub ended : (f : Result (Option ℕ) Refusal) → is_end f ≡ true → paper_found f ≡ nothing
-  ended (Ok (Some v)) e = let z : ◌≡◌ {A = ℕ} 0 1 = cc in absurd (omega arith)
+  ended (Ok (Some v)) e = cc
   ended (Ok None) e = refl
-  ended (Err k) e = let z : ◌≡◌ {A = ℕ} 0 1 = cc in absurd (omega arith)
+  ended (Err k) e = cc
 
   pub goes_on : (f : Result (Option ℕ) Refusal) → is_end f ≡ false → paper_found f ≡ nothing → ⊥
-  goes_on (Ok (Some v)) e h = let z : ◌≡◌ {A = ℕ} 0 1 = cc in absurd (omega arith)
-  goes_on (Ok None) e h = let z : ◌≡◌ {A = ℕ} 0 1 = cc in absurd (omega arith)
-  goes_on (Err k) e h = let z : ◌≡◌ {A = ℕ} 0 1 = cc in absurd (omega arith)
+  goes_on (Ok (Some v)) e h = cc
+  goes_on (Ok None) e h = cc
+  goes_on (Err k) e h = cc
 
 module _ (next : Answer → Answer) where
   -- The answers as numbers of the wire.
@@ -74,9 +66,6 @@ module _ (next : Answer → Answer) where
       pub same : length out ≡ length out₀
       pub front : take i out ++ numbers (length out₀ - i) h ≡ all
       pub back : drop i out ≡ drop i out₀
-
-    pub writing_start : Writing out₀ a 0
-    writing_start = record { room = omega arith; same = refl; front = rw sub-zero; back = refl }
 
     -- If the first i entries are exactly the numbers to be written, the slice and the count are right.
     written : (out : List ℤ) (i : ℕ) → i ≤ length out → take i out ≡ all → drop i out ≡ drop i out₀ → Wrote next a out₀ out i

@@ -10,6 +10,7 @@ use row::Found;
 
 // Starts the listing `children(v)`: the refusal of the constructor, or what the listing then holds. The node buffer is tested although
 // `first_child` reads none of it, because the later steps read it.
+#[tactic(auto, using(crate::proofs::FirstSought::sought_err))]
 pub fn first(words: &[u64], n: usize, nodes: &[i64], block: usize, v: usize) -> Found
     ensures { paper_found result ≡ sought true words.now n nodes.now block v }
 {
@@ -18,6 +19,7 @@ pub fn first(words: &[u64], n: usize, nodes: &[i64], block: usize, v: usize) -> 
 }
 
 // Starts the listing `rev_children(v)`, as `first` does.
+#[tactic(auto, unfolding(crate::specs::Seek::sought))]
 pub fn last(words: &[u64], n: usize, nodes: &[i64], block: usize, v: usize) -> Found
     ensures { paper_found result ≡ sought false words.now n nodes.now block v }
 {

@@ -14,6 +14,7 @@ use mmt_node::put_node;
 use row::Refusal;
 
 // Fills the block leaves. `part` is the part of the node buffer after the inner nodes, with exactly three entries per block leaf.
+#[tactic(auto, using(mmt_layout::proofs::Powers::leaves_in, crate::proofs::Filled::filled_more))]
 fn fill_leaves(plan: &Plan, part: &mut [i64])
     requires { length part.old ≡ width * leaves plan.now.n plan.now.block }
     ensures { Filled plan.now.words.now plan.now.n plan.now.block (leaves plan.now.n plan.now.block) part.new }
@@ -24,6 +25,7 @@ fn fill_leaves(plan: &Plan, part: &mut [i64])
 }
 
 // Fills the inner nodes, from the last one down to node 0. Children have greater indices than their parent, so they are filled before it.
+#[tactic(auto, using(crate::proofs::Filled::leveled_down))]
 fn fill_levels(plan: &Plan, nodes: &mut [i64])
     requires { LeavesRuled plan.now nodes.old }
     ensures { Leveled plan.now.words.now plan.now.n nodes.old plan.now.block 0 nodes.new }
@@ -48,6 +50,7 @@ fn fill_nodes(plan: &Plan, nodes: &mut [i64])
 
 // Writes the entries of all min-max nodes of n bits in blocks of `block` bits, after the tests for refusals 1 to 4.
 // On success the entries after the nodes are unchanged. On refusal the whole buffer is unchanged.
+#[tactic(auto, using(mmt_layout::proofs::Gates::gate_fine), unfolding(crate::specs::Build::built_nodes))]
 pub fn build(words: &[u64], n: usize, nodes: &mut [i64], block: usize) -> Result<(), Refusal>
     ensures { Writes (paper_built result) (build_answer words.now n nodes.old block)
         nodes.new (built_nodes words.now n nodes.old block) }

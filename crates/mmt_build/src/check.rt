@@ -10,6 +10,7 @@ use mmt_node::node_at;
 use row::Told;
 
 // Tests whether every node has its required entries.
+#[tactic(auto, using(crate::proofs::Tested::start, crate::proofs::Tested::done))]
 fn is_as_built(plan: &Plan, nodes: &[i64]) -> bool
     requires { HasRoom plan.now nodes.now }
     ensures { result ≡ built_test plan.now.words.now plan.now.n nodes.now plan.now.block }
@@ -24,6 +25,7 @@ fn is_as_built(plan: &Plan, nodes: &[i64]) -> bool
 }
 
 // Tests whether the buffer begins with the entries that a build writes. It answers yes or no, after the tests for refusals 1 to 4.
+#[tactic(auto, using(mmt_layout::proofs::Gates::gate_fine, crate::proofs::Tested::built_true, crate::proofs::Tested::built_yes), unfolding(crate::specs::Check::as_built_answer))]
 pub fn as_built(words: &[u64], n: usize, nodes: &[i64], block: usize) -> Told
     ensures { AsBuiltPromise words.now n nodes.now block result }
 {

@@ -11,34 +11,34 @@
 --   reach: (k + 1)·2^h
 --   reach_zero, reach_next, reach_child: `reach` at height 0, of node k + 1, and of a left child
 --   Place: node k has height h
---   place_left, place_right, place_up, place_next: the heights of the left child, the right child, the parent and the right sibling
+--   place_left, place_right, place_up: the heights of the left child, the right child and the parent
 --   place_ge: `reach` is at least 2 to the power of the height of the root
 --   place_inner: a node with a height above 0 is an inner node
 --   place_leaf, leaf_place: a node has height 0 exactly if it is a block leaf
 --   place_of: every node has a height
 -- Assumes nothing.
-use mathlib.Core.Path.{◌≡◌, refl, sym, ap, ◌∙◌}
+use mathlib.Core.Path.{◌≡◌}
 use Prim.Native.Nat.{ℕ, zero, suc, ◌+◌, ◌-◌, ◌*◌, ◌/◌, ◌%◌, ◌^◌, ◌≤◌, ◌<◌, min}
 use native.Mathlib.Omega.{arith}
-use native.Mathlib.Nat.{suc-mul, mul_assoc, mul_comm, pow-succ', mul-le-mul_right}
+use native.Mathlib.Nat.{suc-mul, mul_comm, pow-succ', mul-le-mul_right}
 use native.Mathlib.Decide.{dec_lt}
 use lib.Pow.{pow_mono, pow-add}
-use Rattle.mmt_layout.specs.declared.Layout.{Layout}
-use Rattle.mmt_layout.specs.Layout.{leaves, inner_for, inner, count}
+use Rattle.mmt_layout.specs.Layout.{leaves, inner_for, layout_of, inner, count}
 use Rattle.mmt_layout.proofs.Powers.{leaves_in, leaves_out}
-use Rattle.mmt_layout.proofs.Gates.{layout_some, counted}
 
 -- ---- the counts
-module _ (n B : ℕ) (some : 0 < n) where
-  pub inner_is : inner n B ≡ inner_for (leaves n B)
-  inner_is = sym (ap (λ (l : Layout). l.inner) (layout_some n B (λ z. omega arith)))
+module _ (n B : ℕ) where
+  pub inner_is : 0 < n → inner n B ≡ inner_for (leaves n B)
+  unfolding layout_of
+  inner_is some = grind arith
 
-  pub count_is : count n B ≡ leaves n B + inner_for (leaves n B)
-  count_is = sym (ap (λ (l : Layout). l.leaves + l.inner) (layout_some n B (λ z. omega arith)))
+  pub count_is : 0 < n → count n B ≡ leaves n B + inner_for (leaves n B)
+  unfolding layout_of
+  count_is some = grind arith
 
--- the block of a block leaf begins before n
-pub leaf_in : (n B k : ℕ) → 0 < B → k < count n B → inner n B ≤ k → (k - inner n B) * B < n
-leaf_in n B k pB h l = let some = counted n B k h in leaves_in n B pB (k - inner n B) (omega (arith, inner_is n B some, count_is n B some))
+  pub leaf_in : (k : ℕ) → 0 < B → k < count n B → inner n B ≤ k → (k - inner n B) * B < n
+  unfolding layout_of
+  leaf_in k pB h l = grind (arith, leaves_in n B pB (k - inner n B))
 
 -- ---- blocks
 unfoldable pub block_at : ℕ → ℕ → ℕ → ℕ
@@ -47,7 +47,7 @@ block_at n B b = min n (b * B)
 module _ (n B : ℕ) (pB : 0 < B) where
   pub block_mono : (b c : ℕ) → b ≤ c → block_at n B b ≤ block_at n B c
   unfolding block_at
-  block_mono b c h = omega (arith, mul-le-mul_right {m = b} {n = c} B h)
+  block_mono b c h = grind (arith, mul-le-mul_right)
 
   pub block_le : (b : ℕ) → block_at n B b ≤ n
   unfolding block_at
@@ -55,11 +55,11 @@ module _ (n B : ℕ) (pB : 0 < B) where
 
   pub block_in : (b : ℕ) → b < leaves n B → block_at n B b ≡ b * B
   unfolding block_at
-  block_in b h = omega (arith, leaves_in n B pB b h)
+  block_in b h = grind (arith, leaves_in)
 
   pub block_out : (b : ℕ) → leaves n B ≤ b → block_at n B b ≡ n
   unfolding block_at
-  block_out b h = omega (arith, leaves_out n B pB b h)
+  block_out b h = grind (arith, leaves_out)
 
   pub block_next : (b : ℕ) → block_at n B (suc b) ≡ min n (b * B + B)
   unfolding block_at
@@ -67,7 +67,7 @@ module _ (n B : ℕ) (pB : 0 < B) where
 
   pub block_lt : (b c : ℕ) → b < c → block_at n B b < n → block_at n B b < block_at n B c
   unfolding block_at
-  block_lt b c h k = omega (arith, suc-mul b B, mul-le-mul_right {m = suc b} {n = c} B h)
+  block_lt b c h k = grind (arith, mul-le-mul_right {m = suc b} {n = c} B)
 
 -- ---- (k + 1) * 2 ^ h
 unfoldable pub reach : ℕ → ℕ → ℕ
@@ -79,13 +79,11 @@ reach_zero k = omega arith
 
 pub reach_next : (h k : ℕ) → reach h (suc k) ≡ reach h k + 2 ^ h
 unfolding reach
-reach_next h k = suc-mul (suc k) (2 ^ h)
+reach_next h k = grind arith
 
 pub reach_child : (h k : ℕ) → reach h (2 * k + 1) ≡ reach (suc h) k
 unfolding reach
-reach_child h k =
-    let q : suc (2 * k + 1) ≡ suc k * 2 = omega arith in
-    ap (λ (x : ℕ). x * 2 ^ h) q ∙ mul_assoc (suc k) 2 (2 ^ h) ∙ ap (λ (x : ℕ). suc k * x) (sym (pow-succ' 2 h))
+reach_child h k = grind (arith, pow-succ')
 
 -- ---- node k has height h and is d levels below the root; the root has height `top`
 pub record Place (top h k : ℕ) : Type 0 where
@@ -95,57 +93,30 @@ pub record Place (top h k : ℕ) : Type 0 where
   pub hi : suc (suc k) ≤ 2 * 2 ^ d
 
 module _ (top : ℕ) where
-  pub place_left : (h k : ℕ) → Place top (suc h) k → Place top h (2 * k + 1)
-  place_left h k p =
-      let s = p.sum in
-      let l = p.lo in
-      let u = p.hi in
-      record { d = suc p.d; sum = omega arith; lo = omega (arith, pow-succ' 2 p.d); hi = omega (arith, pow-succ' 2 p.d) }
+  module _ (h k : ℕ) where
+    pub place_left : Place top (suc h) k → Place top h (2 * k + 1)
+    place_left p = record { d = suc p.d; sum = grind arith; lo = grind (arith, pow-succ'); hi = grind (arith, pow-succ') }
 
-  pub place_right : (h k : ℕ) → Place top (suc h) k → Place top h (2 * k + 2)
-  place_right h k p =
-      let s = p.sum in
-      let l = p.lo in
-      let u = p.hi in
-      record { d = suc p.d; sum = omega arith; lo = omega (arith, pow-succ' 2 p.d); hi = omega (arith, pow-succ' 2 p.d) }
+    pub place_right : Place top (suc h) k → Place top h (2 * k + 2)
+    place_right p = record { d = suc p.d; sum = grind arith; lo = grind (arith, pow-succ'); hi = grind (arith, pow-succ') }
 
-  -- a node other than the root is at least one level below the root
-  below : (h k : ℕ) → 0 < k → (p : Place top h k) → (c : ℕ) × (p.d ≡ suc c)
-  below h k z p = go p.d p.hi
-    where
-      go : (x : ℕ) → suc (suc k) ≤ 2 * 2 ^ x → (c : ℕ) × (x ≡ suc c)
-      go zero u = absurd (omega arith)
-      go (suc c) u = (c, refl)
+    -- a node other than the root is at least one level below the root
+    pub place_up : 0 < k → Place top h k → Place top (suc h) ((k - 1) / 2)
+    place_up z p =
+        let b : 0 < p.d = grind (arith, p.hi) in
+        let t = pow-succ' 2 (p.d - 1) in
+        record { d = p.d - 1; sum = grind arith; lo = grind (arith, t); hi = grind (arith, t) }
 
-  pub place_up : (h k : ℕ) → 0 < k → Place top h k → Place top (suc h) ((k - 1) / 2)
-  place_up h k z p =
-      let c = below h k z p in
-      let s = p.sum in
-      let l : 2 ^ suc c.0 ≤ suc k = rw c.1 at p.lo in
-      let u : suc (suc k) ≤ 2 * 2 ^ suc c.0 = rw c.1 at p.hi in
-      let q = c.1 in
-      record { d = c.0; sum = omega arith; lo = omega (arith, pow-succ' 2 c.0); hi = omega (arith, pow-succ' 2 c.0) }
+    -- the first node of a level has the reach 2^top; the nodes after it have a greater one
+    pub place_ge : Place top h k → 2 ^ top ≤ reach h k
+    unfolding reach
+    place_ge p = grind (arith, pow-add, mul_comm, mul-le-mul_right {m = 2 ^ p.d} {n = suc k} (2 ^ h))
 
-  pub place_next : (h k : ℕ) → k % 2 ≡ 1 → Place top h k → Place top h (suc k)
-  place_next h k z p =
-      let c = below h k (omega arith) p in
-      let l : 2 ^ suc c.0 ≤ suc k = rw c.1 at p.lo in
-      let u : suc (suc k) ≤ 2 * 2 ^ suc c.0 = rw c.1 at p.hi in
-      record { d = p.d; sum = p.sum; lo = (let x = p.lo in omega arith); hi = rw c.1 (omega (arith, pow-succ' 2 c.0)) }
-
-  -- the first node of a level has the reach 2^top; the nodes after it have a greater one
-  pub place_ge : (h k : ℕ) → Place top h k → 2 ^ top ≤ reach h k
-  unfolding reach
-  place_ge h k p = rw (← p.sum, pow-add, mul_comm (2 ^ h)) (mul-le-mul_right {m = 2 ^ p.d} {n = suc k} (2 ^ h) p.lo)
-
-  pub place_inner : (h k : ℕ) → Place top (suc h) k → suc k < 2 ^ top
-  place_inner h k p =
-      let s = p.sum in
-      let u = p.hi in
-      omega (arith, pow-succ' 2 p.d, pow_mono {i = suc p.d} {j = top} (omega arith))
+    pub place_inner : Place top (suc h) k → suc k < 2 ^ top
+    place_inner p = grind (arith, pow-succ', pow_mono {i = suc p.d} {j = top})
 
   pub place_leaf : (k : ℕ) → Place top 0 k → 2 ^ top ≤ suc k
-  place_leaf k p = rw reach_zero at (place_ge 0 k p)
+  place_leaf k p = grind (arith, place_ge 0 k p)
 
   pub leaf_place : (k : ℕ) → 2 ^ top ≤ suc k → suc (suc k) ≤ 2 * 2 ^ top → Place top 0 k
   leaf_place k l u = record { d = top; sum = omega arith; lo = l; hi = u }

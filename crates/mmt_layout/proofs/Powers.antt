@@ -16,69 +16,53 @@
 --   leaves_small: there are at most 2^29 block leaves
 --   block_edge: every block begins at a byte boundary
 -- Assumes nothing.
-use mathlib.Core.Path.{◌≡◌, refl, sym, ap, ◌∙◌}
-use mathlib.Core.Bool.{Bool, true, false, cond}
+use mathlib.Core.Path.{◌≡◌, refl, ap, ◌∙◌}
 use Prim.Native.Nat.{ℕ, zero, suc, ◌+◌, ◌-◌, ◌*◌, ◌/◌, ◌%◌, ◌^◌, ◌≤◌, ◌<◌, max, min}
 use native.Mathlib.Omega.{arith}
-use native.Mathlib.Nat.{suc-mul, mul_assoc, mul_comm, mul-mod_right, pow-succ', mul-le-mul_right, mul-le-mul_left, div-add-mod', mod-lt}
-use native.Mathlib.Decide.{dec_lt}
+use native.Mathlib.Nat.{pow-succ', mul-le-mul_right, mul-le-mul_left}
 use Rattle.std.proofs.lemmas.Grind.{div_ceil_times}
-use borrow.Author.Tests.{leb-true, leb-false}
-use lib.Dec.{leb}
+use Rattle.std.proofs.lemmas.Nat.{mul-mod_second}
 use lib.Pow.{pow_pos, pow_mono, high, ones_split, ones_lt}
 use Rattle.row.specs.Limits.{max_bits}
 use Rattle.mmt_layout.specs.Layout.{leaves, exponent, power, inner_for, max_leaves}
 
 -- ---- the least power of two
 lt_pow : (d : ℕ) → d < 2 ^ d
-lt_pow zero = omega arith
-lt_pow (suc d) = omega (arith, lt_pow d, pow-succ' 2 d)
+lt_pow zero = grind arith
+lt_pow (suc d) = grind (arith, lt_pow d, pow-succ')
 
 exponent_ge : (f d x : ℕ) → x ≤ f + d → x ≤ 2 ^ exponent f d x
 unfolding exponent
-exponent_ge zero d x h = omega (arith, lt_pow d)
-exponent_ge (suc f) d x h = go (leb x (2 ^ d)) refl (exponent_ge f (suc d) x (omega arith))
-  where
-    go : (t : Bool) → leb x (2 ^ d) ≡ t → x ≤ 2 ^ exponent f (suc d) x → x ≤ 2 ^ cond t d (exponent f (suc d) x)
-    go true e r = leb-true x (2 ^ d) e
-    go false e r = r
+exponent_ge zero d x h = grind (arith, lt_pow d)
+exponent_ge (suc f) d x h = grind (arith, exponent_ge f (suc d) x)
 
 exponent_least : (f d x c : ℕ) → d ≤ c → x ≤ 2 ^ c → exponent f d x ≤ c
 unfolding exponent
 exponent_least zero d x c h k = h
-exponent_least (suc f) d x c h k = go (leb x (2 ^ d)) refl (exponent_least f (suc d) x c)
-  where
-    go : (t : Bool) → leb x (2 ^ d) ≡ t → (suc d ≤ c → x ≤ 2 ^ c → exponent f (suc d) x ≤ c) → cond t d (exponent f (suc d) x) ≤ c
-    go true e r = h
-    go false e r =
-        r (elim (dec_lt d c) [ yes y ↦ y | no z ↦ (let w : c ≡ d = omega arith in let k₂ : x ≤ 2 ^ d = rw w at k in absurd (omega (arith, leb-false x (2 ^ d) e))) ]) k
+exponent_least (suc f) d x c h k = grind (arith, exponent_least f (suc d) x c)
 
-pub power_ge : (x : ℕ) → x ≤ power x
-unfolding power
-power_ge x = exponent_ge x 0 x (omega arith)
+module _ (x : ℕ) where
+  pub power_ge : x ≤ power x
+  unfolding power
+  power_ge = exponent_ge x 0 x (omega arith)
 
-pub power_least : (x c : ℕ) → x ≤ 2 ^ c → power x ≤ 2 ^ c
-unfolding power
-power_least x c h = pow_mono {i = exponent x 0 x} {j = c} (exponent_least x 0 x c (omega arith) h)
+  pub power_least : (c : ℕ) → x ≤ 2 ^ c → power x ≤ 2 ^ c
+  unfolding power
+  power_least c h = grind (arith, pow_mono, exponent_least)
 
-pub power_is : (x c : ℕ) → x ≤ 2 ^ c → 2 ^ c < 2 * x → power x ≡ 2 ^ c
-unfolding power
-power_is x c h l =
-    let p = power_ge x in
-    let q = power_least x c h in
-    elim (dec_lt (exponent x 0 x) c) [
-      | yes m ↦ absurd (omega (arith, pow_mono {i = suc (exponent x 0 x)} {j = c} m, pow-succ' 2 (exponent x 0 x)))
-      | no m ↦ (let w = pow_mono {i = c} {j = exponent x 0 x} (omega arith) in omega arith)
-    ]
+  pub power_is : (c : ℕ) → x ≤ 2 ^ c → 2 ^ c < 2 * x → power x ≡ 2 ^ c
+  unfolding power
+  power_is c h l =
+      grind (arith, power_ge, power_least c, pow_mono {i = suc (exponent x 0 x)} {j = c}, pow_mono {i = c} {j = exponent x 0 x}, pow-succ')
 
 -- ---- inner nodes
 pub inner_one : (l : ℕ) → l ≤ 2 → 1 ≡ inner_for l
 unfolding inner_for
-inner_one l h = omega (arith, power_least l 1 h)
+inner_one l h = grind (arith, power_least l 1)
 
 pub inner_many : (l c : ℕ) → 2 < l → l ≤ 2 ^ c → 2 ^ c < 2 * l → 2 ^ c - 1 ≡ inner_for l
 unfolding inner_for
-inner_many l c h p q = omega (arith, power_is l c p q)
+inner_many l c h p q = grind (arith, power_is)
 
 pub shifted : (m z : ℕ) → (2 ^ (m + z) - 1) / 2 ^ z ≡ 2 ^ m - 1
 shifted m z = ap (λ (x : ℕ). x / 2 ^ z) (ones_split m z) ∙ high (2 ^ m - 1) z (ones_lt z)
@@ -102,50 +86,30 @@ inner_room l = omega (arith, power_ge l)
 -- `levels` is the smallest height, at least 1, of a tree with room for l block leaves
 pub levels_least : (l c : ℕ) → 0 < c → l ≤ 2 ^ c → levels l ≤ c
 unfolding levels
-levels_least l c h k = omega (arith, exponent_least l 0 l c (omega arith) k)
+levels_least l c h k = grind (arith, exponent_least)
 
 pub inner_small : (l c : ℕ) → 0 < c → l ≤ 2 ^ c → inner_for l < 2 ^ c
-inner_small l c h k = omega (arith, inner_top l, pow_mono {i = levels l} {j = c} (levels_least l c h k))
+inner_small l c h k = grind (arith, inner_top l, pow_mono, levels_least)
 
 -- ---- block leaves
 module _ (n B : ℕ) (pB : 0 < B) where
   pub leaves_in : (b : ℕ) → b < leaves n B → b * B < n
   unfolding leaves
-  leaves_in b h = omega (arith, suc-mul b B, mul-le-mul_right {m = suc b} {n = (n + (B - 1)) / B} B h, div-add-mod' (n + (B - 1)) B)
+  leaves_in b h = grind (arith, mul-le-mul_right {m = suc b} {n = (n + (B - 1)) / B} B)
 
   pub leaves_out : (b : ℕ) → leaves n B ≤ b → n ≤ b * B
   unfolding leaves
-  leaves_out b h = omega (arith, mul-le-mul_right {m = (n + (B - 1)) / B} {n = b} B h, div-add-mod' (n + (B - 1)) B, mod-lt (n + (B - 1)) {m = B} pB)
+  leaves_out b h = grind (arith, mul-le-mul_right {m = (n + (B - 1)) / B} {n = b} B)
 
   -- n div B, rounded up
   pub leaves_up : n / B + min 1 (n % B) ≡ leaves n B
   unfolding leaves
-  leaves_up =
-      let u = (n + (B - 1)) / B in
-      let v = n / B + min 1 (n % B) in
-      let d = div_ceil_times n B pB in
-      let e = div-add-mod' (n + (B - 1)) B in
-      let m = mod-lt (n + (B - 1)) {m = B} pB in
-      elim (dec_lt u v) [
-        | yes l ↦ absurd (omega (arith, suc-mul u B, mul-le-mul_right {m = suc u} {n = v} B l))
-        | no k ↦ elim (dec_lt v u) [
-          | yes l ↦ absurd (omega (arith, suc-mul v B, mul-le-mul_right {m = suc v} {n = u} B l))
-          | no l ↦ omega arith
-        ]
-      ]
+  leaves_up = grind (arith, div_ceil_times n B pB, mul-le-mul_right)
 
 -- a block has at least 8 bits, so at most 2^32 div 8 blocks are needed
 pub leaves_small : (n B : ℕ) → 8 ≤ B → n ≤ max_bits → leaves n B ≤ max_leaves
-leaves_small n B h k = go (leaves n B) (λ b l. leaves_in n B (omega arith) b l)
-  where
-    go : (l : ℕ) → ((b : ℕ) → b < l → b * B < n) → l ≤ max_leaves
-    go zero f = omega arith
-    go (suc l) f = omega (arith, f l (omega arith), mul-le-mul_left {m = 8} {n = B} l h)
+leaves_small n B h k = let b = leaves n B - 1 in grind (arith, leaves_in n B (omega arith) b, mul-le-mul_left {m = 8} {n = B} b)
 
 -- every block begins at a byte boundary, because B is a multiple of 8
 pub block_edge : (b B : ℕ) → B % 8 ≡ 0 → b * B % 8 ≡ 0
-block_edge b B h =
-    let e : B ≡ 8 * (B / 8) = omega arith in
-    ap (λ (x : ℕ). b * x % 8) e
-    ∙ ap (λ (x : ℕ). x % 8) (sym (mul_assoc b 8 (B / 8)) ∙ ap (λ (x : ℕ). x * (B / 8)) (mul_comm b 8) ∙ mul_assoc 8 b (B / 8))
-    ∙ mul-mod_right 8 (b * (B / 8))
+block_edge b B h = grind (arith, mul-mod_second b B 8)

@@ -3,16 +3,17 @@
 // passes the admitted row on. What the tests have shown is an invariant of its type (specs/Layout.antt, record `Fine`).
 #![tactic(auto)]
 
-ghost use Rattle.std.specs.Prelude.{◌≡◌, ◌≤◌, length, IfOk};
+ghost use Rattle.std.specs.Prelude.{◌≡◌, ◌+◌, ◌*◌, ◌≤◌, length, IfOk};
 ghost use Rattle.row.specs.Limits.{max_bits};
 ghost use Rattle.row.specs.Gates.{gate_of};
-ghost use Rattle.mmt_layout.specs.Layout.{inner_for, layout_of, block_gate, room_gate, nodes_gate, max_block, max_leaves};
+ghost use Rattle.row.specs.Parts.{HasBits};
+ghost use Rattle.mmt_layout.specs.Layout.{width, inner_for, layout_of, block_gate, nodes_gate, max_block, max_leaves, max_nodes};
 ghost use Rattle.mmt_layout.specs.Parts.{HasParts};
 
 mod admitted;
 
 pub use admitted::Admitted;
-use row::Refusal;
+use row::{Refusal, Row};
 
 // A block has at most 65,536 bits.
 pub const MAX_BLOCK: usize = 65536;
@@ -27,8 +28,19 @@ pub struct Layout {
     pub inner: usize,
 }
 
+impl Layout {
+    // Returns the number of buffer entries that all nodes need: 3(L + I).
+    pub fn entries(self) -> usize
+        requires { self.leaves + self.inner ≤ max_nodes }
+        ensures { result ≡ width * (self.leaves + self.inner) }
+    {
+        WIDTH * (self.leaves + self.inner)
+    }
+}
+
 // Returns the number of inner nodes above l block leaves: max(1, P - 1), where P is the smallest power of two that is at least l.
 // For l > 2, P - 1 consists of binary ones, as many as l - 1 has binary digits. So one shift computes it.
+#[tactic(auto, using(crate::proofs::Powers::inner_one))]
 fn inner_for(l: usize) -> usize
     requires { l ≤ max_leaves }
     ensures { result ≡ inner_for l }
@@ -40,6 +52,7 @@ fn inner_for(l: usize) -> usize
 }
 
 // Returns the layout of n bits in blocks of `block` bits. A row without bits has no nodes.
+#[tactic(auto, using(crate::proofs::Powers::leaves_up, crate::proofs::Powers::leaves_small), unfolding(crate::specs::Layout::layout_of))]
 pub fn layout_of(n: usize, block: usize) -> Layout
     requires { (n ≤ max_bits) × (8 ≤ block) × (block ≤ max_block) }
     ensures { result ≡ layout_of n block }
@@ -58,6 +71,7 @@ pub fn layout_of(n: usize, block: usize) -> Layout
 }
 
 // Test 1: refuses a block size that is 0, above 65,536 or not a multiple of 8.
+#[tactic(auto, unfolding(crate::specs::Layout::block_gate))]
 fn admit_block(block: usize) -> Result<(), Refusal>
     ensures { result ≡ block_gate block }
 {
@@ -67,31 +81,23 @@ fn admit_block(block: usize) -> Result<(), Refusal>
     Ok(())
 }
 
-// Test 4: refuses a buffer of `nodes` entries if it is too short for the nodes of the layout.
-// It counts the whole nodes that fit into the buffer, so that no product has to be bounded.
-fn admit_room(n: usize, nodes: usize, block: usize) -> Result<(), Refusal>
-    requires { (n ≤ max_bits) × (8 ≤ block) × (block ≤ max_block) }
-    ensures { result ≡ room_gate n nodes block }
-{
-    let all = layout_of(n, block);
-    if nodes / WIDTH < all.leaves + all.inner {
-        return Err(Refusal::TooFewNodes);
-    }
-    Ok(())
-}
-
 // Makes tests 1 to 4 in their order, for n bits in `words` words and a node buffer of `nodes` entries.
 // The first test that fails gives the refusal.
+#[tactic(auto, using(crate::proofs::Gates::count_small), unfolding(crate::specs::Layout::block_gate, row::specs::Gates::row_gate, crate::specs::Layout::room_gate, crate::specs::Layout::nodes_gate))]
 pub fn admit(words: usize, n: usize, nodes: usize, block: usize) -> Result<(), Refusal>
     ensures { result ≡ nodes_gate words n nodes block }
 {
     admit_block(block)?;
     row::admit_row(words, n)?;
-    admit_room(n, nodes, block)
+    if nodes < layout_of(n, block).entries() {
+        return Err(Refusal::TooFewNodes);
+    }
+    Ok(())
 }
 
 impl<'a> Admitted<'a> {
     // Makes tests 1 to 4 in their order.
+    #[tactic(auto, using(crate::proofs::Gates::gate_fine))]
     pub fn new(
         words: &'a [u64],
         n: usize,
@@ -108,5 +114,15 @@ impl<'a> Admitted<'a> {
             nodes,
             block,
         })
+    }
+
+    // Returns the row without its node buffer.
+    pub fn row(self) -> Row<'a>
+        ensures { HasBits self.entry.words.now self.entry.n result }
+    {
+        Row {
+            words: self.words,
+            n: self.n,
+        }
     }
 }

@@ -10,25 +10,19 @@
 --   inside: a node with a height above 0 is an inner node
 --   absent: the stretch of a node that does not exist begins at n
 --   covers: each node has the summary of its stretch, in the sense of `Node`
---   solid: a node whose stretch begins before n exists and has the summary of its stretch, which is not empty
 --   node_is: the entries of a node are `summary_of` its stretch
 --   ruled_tame: the entries of a node are small enough to be joined
 -- Assumes nothing.
 use mathlib.Core.Path.{◌≡◌, refl, sym, ap, ◌∙◌}
-use mathlib.Core.Bool.{Bool, true, false}
 use mathlib.Core.List.{List}
 use Prim.Native.Nat.{ℕ, zero, suc, ◌+◌, ◌-◌, ◌*◌, ◌≤◌, ◌<◌, min}
 use native.Mathlib.Omega.{arith}
+use Rattle.std.proofs.lemmas.Int.{ints}
 use native.Mathlib.Decide.{dec_lt}
-use borrow.Author.Tests.{ltb-true, ltb-false}
-use lib.Dec.{ltb}
-use lib.IntN.{ℤ, pos, ◌+ℤ◌}
+use lib.IntN.{ℤ}
 use lib.Pow.{pow_pos}
 use Rattle.row.specs.Limits.{max_bits}
 use Rattle.ints.specs.Order.{min_z, max_z}
-use Rattle.ints.proofs.Linear.{plus}
-use Rattle.ints.proofs.Shapes.{zsum}
-use Rattle.ints.proofs.Order.{min_ud, max_ud}
 use Rattle.row.specs.Bits.{bit_at}
 use Rattle.row.specs.Excess.{E}
 use Rattle.row.proofs.Excess.{StepsByOne, steps}
@@ -46,26 +40,19 @@ pub data Node (e : ℕ → ℤ) (a t : ℕ) (x : Summary) : Type 0 where
   full : Full e a t x → Node e a t x
   empty : t ≡ a → x ≡ none → Node e a t x
 
+join_none : (e : ℕ → ℤ) (a t : ℕ) (x : Summary) → Full e a t x → join_of x none ≡ x
+unfolding join_of none min_z max_z
+join_none e a t x f = grind (arith, ints, end_over e a t x f, end_under e a t x f)
+
+none_none : join_of none none ≡ none
+unfolding join_of none min_z max_z
+none_none = refl
+
 module _ (e : ℕ → ℤ) (near : (k : ℕ) → StepsByOne e k) where
-  join_none : (a t : ℕ) (x : Summary) → Full e a t x → join_of x none ≡ x
-  unfolding join_of none
-  join_none a t x f =
-      let h = end_over e a t x f in
-      let k = end_under e a t x f in
-      let q = f.total in
-      let q₁ : x.total +ℤ pos 0 ≡ x.total = omega zsum in
-      let q₂ : min_z x.least (x.total +ℤ pos 0) ≡ x.least = omega (zsum, min_ud x.least (x.total +ℤ pos 0), plus x.total (pos 0)) in
-      let q₃ : max_z x.greatest (x.total +ℤ pos 0) ≡ x.greatest = omega (zsum, max_ud x.greatest (x.total +ℤ pos 0), plus x.total (pos 0)) in
-      λ i. record { total = q₁ i; least = q₂ i; greatest = q₃ i }
-
-  none_none : join_of none none ≡ none
-  unfolding join_of none min_z max_z
-  none_none = refl
-
   -- the join of two neighbouring stretches; if the left one is empty, so is the right one
   join_node : (a m t : ℕ) (x y : Summary) → (m ≡ a → t ≡ m) → Node e a m x → Node e m t y → Node e a t (join_of x y)
   join_node a m t x y c (full f) (full g) = full (join_full e near a m t x y f g)
-  join_node a m t x y c (full f) (empty q w) = rw (q, w, join_none a m x f) (full f)
+  join_node a m t x y c (full f) (empty q w) = rw (q, w, join_none e a m x f) (full f)
   join_node a m t x y c (empty p u) (full g) = let s = g.some in let q = c p in absurd (omega arith)
   join_node a m t x y c (empty p u) (empty q w) = rw (u, w, none_none) (empty (q ∙ p) refl)
 
@@ -73,26 +60,13 @@ module _ (e : ℕ → ℤ) (near : (k : ℕ) → StepsByOne e k) where
   inner_node : (M : ℕ) (node : ℕ → Summary) (k a m t n : ℕ) → a ≤ m → m ≤ t → t ≤ n → (a < n → a < m)
       → (2 * k + 1 < M → Node e a m (node (2 * k + 1))) → (2 * k + 2 < M → Node e m t (node (2 * k + 2)))
       → (M ≤ 2 * k + 1 → a ≡ n) → (M ≤ 2 * k + 2 → m ≡ n) → Node e a t (inner_of M node k)
-  inner_node M node k a m t n am mt tn strict x y ax ay = go (ltb (2 * k + 2) M) refl (ltb (2 * k + 1) M) refl
-    where
-      no_bits : m ≡ a → t ≡ m
-      no_bits q = elim (dec_lt a n) [ yes l ↦ (let z = strict l in absurd (omega arith)) | no l ↦ omega arith ]
-
-      go : (b : Bool) → ltb (2 * k + 2) M ≡ b → (c : Bool) → ltb (2 * k + 1) M ≡ c → Node e a t (inner_of M node k)
-      go true eb c ec =
-          let i = ltb-true (2 * k + 2) M eb in
-          rw (← inner_both M node k i) (join_node a m t (node (2 * k + 1)) (node (2 * k + 2)) no_bits (x (omega arith)) (y i))
-      go false eb true ec =
-          let i = ltb-false (2 * k + 2) M eb in
-          let j = ltb-true (2 * k + 1) M ec in
-          let q = ay i in
-          let w : t ≡ m = omega arith in
-          rw (← inner_left M node k i j, w) (x j)
-      go false eb false ec =
-          let i = ltb-false (2 * k + 1) M ec in
-          let q = ax i in
-          let w : t ≡ a = omega arith in
-          rw (← inner_none M node k i) (empty w refl)
+  inner_node M node k a m t n am mt tn strict x y ax ay = elim (dec_lt (2 * k + 2) M) [
+    | yes i ↦ rw (← inner_both M node k i) (join_node a m t (node (2 * k + 1)) (node (2 * k + 2)) (λ q. grind arith) (x (omega arith)) (y i))
+    | no i ↦ elim (dec_lt (2 * k + 1) M) [
+      | yes j ↦ (let z = x j in grind (arith, inner_left))
+      | no j ↦ (let z : Node e a t none = empty (grind arith) refl in grind (arith, inner_none))
+    ]
+  ]
 
 -- ---- the position at which the stretch of node k at height h begins
 unfoldable pub start_of : ℕ → ℕ → ℕ → ℕ → ℕ
@@ -104,7 +78,7 @@ top n B = levels (leaves n B)
 module _ (n B : ℕ) (pB : 0 < B) where
   pub start_child : (h k : ℕ) → start_of n B h (2 * k + 1) ≡ start_of n B (suc h) k
   unfolding start_of
-  start_child h k = rw reach_child
+  start_child h k = grind (arith, reach_child)
 
   pub start_le : (h k : ℕ) → start_of n B h k ≤ n
   unfolding start_of
@@ -112,17 +86,15 @@ module _ (n B : ℕ) (pB : 0 < B) where
 
   pub start_mono : (h k : ℕ) → start_of n B h k ≤ start_of n B h (suc k)
   unfolding start_of
-  start_mono h k = block_mono n B pB (reach h k - suc (inner_for (leaves n B))) (reach h (suc k) - suc (inner_for (leaves n B))) (omega (arith, reach_next h k))
+  start_mono h k = grind (arith, block_mono, reach_next)
 
   pub start_lt : (h k : ℕ) → Place (top n B) h k → start_of n B h k < n → start_of n B h k < start_of n B h (suc k)
   unfolding start_of
-  start_lt h k p l =
-      block_lt n B pB (reach h k - suc (inner_for (leaves n B))) (reach h (suc k) - suc (inner_for (leaves n B)))
-      (omega (arith, reach_next h k, pow_pos h, place_ge (top n B) h k p, inner_top (leaves n B))) l
+  start_lt h k p l = grind (arith, block_lt, reach_next, pow_pos h, place_ge (top n B) h k p, inner_top (leaves n B))
 
   pub start_leaf : (b : ℕ) → start_of n B 0 (inner_for (leaves n B) + b) ≡ block_at n B b
   unfolding start_of
-  start_leaf b = ap (block_at n B) (omega (arith, reach_zero (inner_for (leaves n B) + b)))
+  start_leaf b = grind (arith, reach_zero)
 
   pub inside : (h k : ℕ) → Place (top n B) (suc h) k → k < inner_for (leaves n B)
   inside h k p = omega (arith, place_inner (top n B) h k p, inner_top (leaves n B))
@@ -131,8 +103,8 @@ module _ (n B : ℕ) (pB : 0 < B) where
     -- the stretch of a node that does not exist begins at n, so it is empty
     pub absent : (h k : ℕ) → Place (top n B) h k → count n B ≤ k → start_of n B h k ≡ n
     unfolding start_of
-    absent zero k p a = block_out n B pB (reach 0 k - suc (inner_for (leaves n B))) (omega (arith, reach_zero k, count_is n B some))
-    absent (suc h) k p a = absurd (omega (arith, inside h k p, count_is n B some))
+    absent zero k p a = grind (arith, block_out n B pB, reach_zero, count_is n B some)
+    absent (suc h) k p a = grind (arith, inside h k p, count_is n B some)
 
     -- block leaf b has the summary of the bits of its block
     leaf_node : (ws : List ℕ) (b : ℕ) → b < leaves n B → Node (E ws) (block_at n B b) (block_at n B (suc b)) (leaf_of ws n B b)
@@ -197,18 +169,6 @@ module _ (ws : List ℕ) (n : ℕ) (s : List ℤ) (B : ℕ) (pB : 0 < B) (some :
 
       strict : a < n → a < m
       strict = rw (ea, s₂) at (start_lt n B pB h (2 * k + 1) pl)
-
-  -- a node whose stretch begins before n exists and has the summary of its stretch, which is not empty
-  pub solid : (h k : ℕ) → Place (top n B) h k → k₀ ≤ k → start_of n B h k < n
-      → (k < count n B) × Full (E ws) (start_of n B h k) (start_of n B h (suc k)) (node_at s k)
-  solid h k p o l = (i, go (covers h k p o i))
-    where
-      i : k < count n B
-      i = elim (dec_lt k (count n B)) [ yes y ↦ y | no z ↦ absurd (omega (arith, absent n B pB some h k p (omega arith))) ]
-
-      go : Node (E ws) (start_of n B h k) (start_of n B h (suc k)) (node_at s k) → Full (E ws) (start_of n B h k) (start_of n B h (suc k)) (node_at s k)
-      go (full f) = f
-      go (empty q w) = absurd (omega (arith, start_lt n B pB h k p l))
 
   -- the three entries of a node are the summary of its stretch
   pub node_is : (h k : ℕ) → Place (top n B) h k → k₀ ≤ k → k < count n B

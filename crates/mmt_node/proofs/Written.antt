@@ -12,15 +12,14 @@
 --   written_built: the written entries, followed by any other entries, are as built
 --   written_is: a buffer with the nodes `node` and an unchanged rest consists of the written entries and that rest
 -- Assumes nothing.
-use mathlib.Core.Path.{◌≡◌, refl, sym, ap, ◌∙◌}
+use mathlib.Core.Path.{◌≡◌, refl, sym, ◌∙◌}
 use mathlib.Core.List.{List, ◌++◌}
-use Prim.Native.Nat.{ℕ, zero, suc, ◌+◌, ◌-◌, ◌*◌, ◌/◌, ◌%◌, ◌≤◌, ◌<◌}
+use Prim.Native.Nat.{ℕ, zero, suc, ◌+◌, ◌*◌, ◌/◌, ◌≤◌, ◌<◌}
 use native.Mathlib.Omega.{arith}
-use native.Mathlib.Decide.{dec_lt}
-use native.Mathlib.Nat.{add-zero, zero-add}
 use lib.IntN.{ℤ, pos}
+use Rattle.std.proofs.lemmas.Grind.{common_steps}
 use lib.ListN.{get_or, length, drop, length-append, length-drop, get_or-append}
-use lib.Seq.{ext_get_or, get_or-append-add, get_or-drop}
+use lib.Seq.{ext_get_or}
 use Rattle.bits_stretch.specs.declared.summary.Summary.{Summary}
 use Rattle.mmt_layout.specs.Layout.{width, count}
 use Rattle.mmt_node.specs.Nodes.{node_at, node_from, Ruled, AsBuilt, node_of, listed, written}
@@ -32,7 +31,7 @@ module _ (ws : List ℕ) (n B : ℕ) where
   unfolding node_of
   of_stable zero g k p q i = absurd (omega arith)
   of_stable (suc f) zero k p q i = absurd (omega arith)
-  of_stable (suc f) (suc g) k p q i = from_ext ws n B k (node_of ws n B f) (node_of ws n B g) (λ j l m. of_stable f g j (omega arith) (omega arith) m)
+  of_stable (suc f) (suc g) k p q i = grind (arith, from_ext, of_stable f g)
 
   abbrev pub node : ℕ → Summary
   node = node_of ws n B (count n B)
@@ -68,24 +67,13 @@ listed_length node k (suc c) = omega (arith, listed_length node (suc k) c)
 pub node_listed : (node : ℕ → Summary) (c k j : ℕ) → j < c → node_at (listed node k c) j ≡ node (k + j)
 unfolding listed node_at
 node_listed node zero k j h = absurd (omega arith)
-node_listed node (suc c) k zero h = rw add-zero refl
-node_listed node (suc c) k (suc j) h =
-    let p : 3 * suc j ≡ suc (suc (suc (3 * j))) = omega arith in
-    let q : 3 * suc j + 1 ≡ suc (suc (suc (3 * j + 1))) = omega arith in
-    let r : 3 * suc j + 2 ≡ suc (suc (suc (3 * j + 2))) = omega arith in
-    let e : k + suc j ≡ suc k + j = omega arith in
-    rw (q, r, p, e) (node_listed node c (suc k) j (omega arith))
+node_listed node (suc c) k zero h = grind arith
+node_listed node (suc c) k (suc j) h = grind (arith, node_listed node c (suc k) j, common_steps)
 
 -- ---- entries and nodes
 pub same_numbers : (s t : List ℤ) (m : ℕ) → ((k : ℕ) → k < m → node_at s k ≡ node_at t k) → (i : ℕ) → i < width * m → get_or s i (pos 0) ≡ get_or t i (pos 0)
 unfolding node_at
-same_numbers s t m h i l = go (i % 3) refl (h (i / 3) (omega arith))
-  where
-    go : (c : ℕ) → i % 3 ≡ c → node_at s (i / 3) ≡ node_at t (i / 3) → get_or s i (pos 0) ≡ get_or t i (pos 0)
-    go zero e q = let w : i ≡ 3 * (i / 3) = omega arith in rw w (ap (λ (x : Summary). x.total) q)
-    go (suc zero) e q = let w : i ≡ 3 * (i / 3) + 1 = omega arith in rw w (ap (λ (x : Summary). x.least) q)
-    go (suc (suc zero)) e q = let w : i ≡ 3 * (i / 3) + 2 = omega arith in rw w (ap (λ (x : Summary). x.greatest) q)
-    go (suc (suc (suc c))) e q = absurd (omega arith)
+same_numbers s t m h i l = grind (arith, h (i / 3))
 
 -- ---- the buffer that a build writes
 module _ (ws : List ℕ) (n B : ℕ) where
@@ -95,22 +83,16 @@ module _ (ws : List ℕ) (n B : ℕ) where
 
   written_at : (k : ℕ) → k < count n B → node_at (written ws n B) k ≡ node ws n B k
   unfolding written
-  written_at k i = node_listed (node ws n B) (count n B) 0 k i ∙ ap (node ws n B) (zero-add k)
+  written_at k i = grind (arith, node_listed)
 
   pub written_node : (rest : List ℤ) (k : ℕ) → k < count n B → node_at (written ws n B ++ rest) k ≡ node ws n B k
   unfolding node_at
-  written_node rest k i =
-      let l = written_length in
-      let f : (j : ℕ) → j < width * count n B → get_or (written ws n B ++ rest) j (pos 0) ≡ get_or (written ws n B) j (pos 0) = λ j h. get_or-append (written ws n B) rest (pos 0) j (omega arith) in
-      let p = f (width * k) (omega arith) in
-      let q = f (width * k + 1) (omega arith) in
-      let r = f (width * k + 2) (omega arith) in
-      (λ x. record { total = p x; least = q x; greatest = r x }) ∙ written_at k i
+  written_node rest k i = grind (arith, get_or-append, written_length, written_at k)
 
   -- the written entries, followed by any other entries, are as built
   pub written_built : (rest : List ℤ) → AsBuilt ws n (written ws n B ++ rest) B
   written_built rest = record {
-    long = (let l = written_length in simp length-append (omega arith));
+    long = grind (arith, written_length, length-append);
     node = of_ruled ws n B (written ws n B ++ rest) (written_node rest);
   }
 
@@ -119,13 +101,7 @@ module _ (ws : List ℕ) (n B : ℕ) where
   written_is s t long same nodes rest = ext_get_or (pos 0) t (written ws n B ++ drop (width * count n B) s) size each
     where
       size : length t ≡ length (written ws n B ++ drop (width * count n B) s)
-      size = simp (length-append, length-drop) (omega (arith, written_length))
+      size = grind (arith, written_length, length-append, length-drop)
 
       each : (i : ℕ) → i < length t → get_or t i (pos 0) ≡ get_or (written ws n B ++ drop (width * count n B) s) i (pos 0)
-      each i l = elim (dec_lt i (width * count n B)) [
-        | yes y ↦ same_numbers t (written ws n B ++ drop (width * count n B) s) (count n B) (λ k h. nodes k h ∙ sym (written_node (drop (width * count n B) s) k h)) i y
-        | no y ↦ (let q : length (written ws n B) + (i - width * count n B) ≡ i = (let w = written_length in omega arith) in
-            let z : width * count n B + (i - width * count n B) ≡ i = omega arith in
-            rest i (omega arith) ∙ ap (λ (j : ℕ). get_or s j (pos 0)) (sym z) ∙ sym (get_or-drop (width * count n B) s (i - width * count n B) (pos 0))
-            ∙ sym (get_or-append-add (written ws n B) (drop (width * count n B) s) (i - width * count n B) (pos 0)) ∙ ap (λ (j : ℕ). get_or (written ws n B ++ drop (width * count n B) s) j (pos 0)) q)
-      ]
+      each i l = grind (arith, same_numbers t (written ws n B ++ drop (width * count n B) s) (count n B), written_node, written_length, common_steps)

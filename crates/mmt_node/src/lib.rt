@@ -11,6 +11,7 @@ use bits_stretch::Summary;
 use mmt_layout::WIDTH;
 
 // Returns the three entries of node k.
+#[tactic(auto, unfolding(crate::specs::Nodes::node_at))]
 pub fn node_at(nodes: &[i64], k: usize) -> Summary
     requires { width * (k + 1) ≤ length nodes.now }
     ensures { result ≡ node_at nodes.now k }
@@ -36,6 +37,7 @@ pub fn put_node(nodes: &mut [i64], k: usize, x: Summary)
 
 // Returns the required entries of inner node k: the join of its two children, a copy of an only child, or (0, 0, 0) without children.
 // The entries of the nodes after k must be small, so that the sums of a join fit into an i64.
+#[tactic(auto, unfolding(crate::specs::Nodes::inner_of, bits_stretch::specs::Summary::none))]
 pub fn inner_summary(nodes: &[i64], count: usize, k: usize) -> Summary
     requires { Joinable nodes.now count k }
     ensures { result ≡ inner_of count (node_at nodes.now) k }

@@ -2,7 +2,7 @@
 --   when_refused: for a refusal, if the gate refuses
 --   when_tree: for yes, if the row is one tree
 --   when_not: for no, if the row is not one tree
---   when_told: for the result of the test
+--   when_told: for the result of the test of a row that passes
 -- Assumes nothing.
 use mathlib.Core.Path.{◌≡◌, refl, sym, ◌∙◌}
 use mathlib.Core.Bool.{Bool, true, false, true≢false}
@@ -11,9 +11,12 @@ use Prim.Native.Nat.{ℕ}
 use native.Mathlib.Omega.{arith}
 use lib.ListN.{length}
 use Rattle.row.specs.declared.refusal.Refusal.{Refusal}
-use Rattle.std.specs.Prelude.{Option, Some, Result, Ok, Err}
+use Rattle.std.specs.Prelude.{Option, Some, Result, Ok, Err, IfOk}
 use Rattle.row.specs.Tree.{one_tree}
-use Rattle.row.specs.Gates.{row_gate}
+use Rattle.row.specs.declared.row.Row.{Row}
+use Rattle.row.specs.Gates.{row_gate, gate_of}
+use Rattle.row.specs.Parts.{HasBits}
+use Rattle.std.proofs.lemmas.Result.{IfOk-at_ok}
 use Rattle.row.proofs.Tree.{one_tree_true, one_tree_yes}
 use Rattle.one_tree.specs.OneTree.{one_tree_answer, OneTreePromise}
 
@@ -51,6 +54,10 @@ module _ (ws : List ℕ) (n : ℕ) where
     };
   }
 
-  pub when_told : (t : Bool) → row_gate (length ws) n ≡ (Ok tt) → t ≡ one_tree ws n → OneTreePromise ws n (Ok (Some t))
-  when_told true g e = when_tree g (sym e)
-  when_told false g e = when_not g (sym e)
+  when_passed : (t : Bool) → row_gate (length ws) n ≡ (Ok tt) → t ≡ one_tree ws n → OneTreePromise ws n (Ok (Some t))
+  when_passed true g e = when_tree g (sym e)
+  when_passed false g e = when_not g (sym e)
+
+  pub when_told : {r : Result Row Refusal} → gate_of r ≡ row_gate (length ws) n → IfOk r (HasBits ws n) → {x : Row} → r ≡ Ok x
+      → {t : Bool} → t ≡ one_tree x.words.now x.n → OneTreePromise ws n (Ok (Some t))
+  when_told g p e {t} f = let q = IfOk-at_ok (HasBits ws n) e p in when_passed t (sym g ∙ rw e) (f ∙ rw (q.words, q.bits))

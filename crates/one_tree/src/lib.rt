@@ -4,7 +4,7 @@
 // a close bit.
 #![tactic(auto)]
 
-ghost use Rattle.std.specs.Prelude.{◌≡◌, ◌-◌, ◌*◌, ◌≤◌, ◌&&◌, pos, length};
+ghost use Rattle.std.specs.Prelude.{◌≡◌, ◌-◌, ◌≤◌, ◌&&◌, pos};
 ghost use Rattle.std.specs.Int.Signed.{lt_z};
 ghost use Rattle.row.specs.Limits.{max_bits};
 ghost use Rattle.ints.specs.Order.{eq_z};
@@ -13,18 +13,16 @@ ghost use Rattle.row.specs.Tree.{one_tree};
 ghost use Rattle.bits_stretch.specs.Summary.{summary_of};
 ghost use Rattle.one_tree.specs.OneTree.{OneTreePromise};
 
-use bits_lookup::Lookup;
 use bits_measure::stretch_summary;
 use bits_stretch::Summary;
-use row::Told;
+use row::{Row, Told};
 
 // Returns the summary of all bits but the last.
-fn body_summary(words: &[u64], n: usize) -> Summary
-    requires { (2 ≤ n) × (n ≤ max_bits) × (n ≤ 64 * length words.now) }
-    ensures { result ≡ summary_of (bit_at words.now) 0 (n - 1) }
+fn body_summary(row: Row) -> Summary
+    requires { (2 ≤ row.n) × (row.n ≤ max_bits) }
+    ensures { result ≡ summary_of (bit_at row.entry.words.now) 0 (row.entry.n - 1) }
 {
-    let t = Lookup::new();
-    stretch_summary(&t, words, 0, n - 1)
+    stretch_summary(row.words, 0, row.n - 1)
 }
 
 // Tests whether a summary is that of one tree without its last bit: the excess stays above 0 and is 1 at the end.
@@ -35,17 +33,21 @@ fn is_body(x: Summary) -> bool
 }
 
 // Tests whether a row is one tree: it has at least two bits, the last one is a close bit, and `is_body` holds for the others.
-fn is_one_tree(words: &[u64], n: usize) -> bool
-    requires { (n ≤ max_bits) × (n ≤ 64 * length words.now) }
-    ensures { result ≡ one_tree words.now n }
+#[tactic(auto, using(crate::proofs::Single::few_no, crate::proofs::Single::opens_no, crate::proofs::Single::body_is))]
+fn is_one_tree(row: Row) -> bool
+    requires { row.n ≤ max_bits }
+    ensures { result ≡ one_tree row.entry.words.now row.entry.n }
 {
-    2 <= n && !row::opens_at(words, n - 1) && is_body(body_summary(words, n))
+    if row.n < 2 || row.opens(row.n - 1) {
+        return false;
+    }
+    is_body(body_summary(row))
 }
 
 // Tests whether a row is one tree. Answers yes or no, after refusals 2 and 3.
+#[tactic(auto, using(crate::proofs::Decided::when_refused))]
 pub fn one_tree(words: &[u64], n: usize) -> Told
     ensures { OneTreePromise words.now n result }
 {
-    row::admit_row(words.len(), n)?;
-    Ok(Some(is_one_tree(words, n)))
+    Ok(Some(is_one_tree(Row::new(words, n)?)))
 }

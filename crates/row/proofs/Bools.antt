@@ -8,6 +8,7 @@
 use mathlib.Core.Path.{◌≡◌, refl, sym}
 use mathlib.Core.Bool.{Bool, true, false, ◌&&◌, and-eq-true_iff}
 use lib.Dec.{T}
+pub use Rattle.std.proofs.lemmas.Bool.{and_from as and_both, false_from_ne_true as not_yes}
 
 module _ (a b : Bool) where
   pub and_left : (a && b) ≡ true → a ≡ true
@@ -15,13 +16,6 @@ module _ (a b : Bool) where
 
   pub and_right : (a && b) ≡ true → b ≡ true
   and_right h = ((and-eq-true_iff a b).0 h).1
-
-  pub and_both : a ≡ true → b ≡ true → (a && b) ≡ true
-  and_both p q = (and-eq-true_iff a b).1 (p, q)
-
-pub not_yes : (b : Bool) → (b ≡ true → ⊥) → b ≡ false
-not_yes true f = absurd (f refl)
-not_yes false f = refl
 
 pub is_true : (a : Bool) → T a → a ≡ true
 is_true true h = refl

@@ -3,7 +3,6 @@
 --   Least, Greatest: NearestBy in rising and in falling order
 --   InStretch: the position lies in a stretch and has a property
 --   or_else: the first answer, or the second one if the first is nothing
---   some_at: if some position has the property, the answer is a position
 --   one_least, one_greatest: at most one answer satisfies the relation
 --   join_least, join_greatest: over two adjacent stretches, the answer is that of the one met first, or else that of the other
 --   least_is, greatest_is: `least` (`greatest`) satisfies the relation, for a property that a test decides
@@ -47,11 +46,6 @@ module _ (R : ℕ → ℕ → Type 0) (P : ℕ → Type 0) where
   one_answer c nothing nothing h g = refl
   one_answer c nothing (refused m) h g = absurd g
   one_answer c (refused m) y h g = absurd h
-
-  pub some_at : (x : Answer) → NearestBy R P x → (k : ℕ) → P k → (j : ℕ) × (x ≡ at j)
-  some_at (at j) h k p = (j, refl)
-  some_at nothing h k p = absurd (h k p)
-  some_at (refused m) h k p = absurd h
 
   -- A position has S if it has P or Q, and no position with Q comes before one with P.
   join : (Q S : ℕ → Type 0) → ((k : ℕ) → P k → S k) → ((k : ℕ) → Q k → S k) → ((k : ℕ) → S k → (P k → ⊥) → (Q k → ⊥) → ⊥)

@@ -40,7 +40,7 @@ abbrev pub paper_built : Result (Unit {0}) Refusal → Answer
 paper_built (Ok _) = at 0
 paper_built (Err k) = refused (number_of k)
 
--- The specification answer of the text reader: the bit count.
+-- The specification answer of the text reader, which is the bit count, and of `list`, which is a count of answers.
 abbrev pub paper_read : Result ℕ Refusal → Answer
 paper_read (Ok n) = at n
 paper_read (Err k) = refused (number_of k)

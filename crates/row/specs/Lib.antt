@@ -7,3 +7,4 @@ pub mod Search
 pub mod Tree
 pub mod Gates
 pub mod Writes
+pub mod Parts

@@ -15,7 +15,7 @@ pub fn byte_of(word: u64, k: usize) -> u8
     requires { k < 8 }
     ensures { result ≡ word / 2 ^ (8 * k) % 256 }
 {
-    ((word >> (8 * k)) % 256) as u8
+    word.to_le_bytes()[k]
 }
 
 // Returns byte q of a row. No byte crosses a word boundary, so one word is read.

@@ -1,21 +1,23 @@
 // The gates of a row and of a handle. Their tests come in the order 2, 3, 5 (SCOPE, Refusals).
-ghost use Rattle.std.specs.Prelude.{◌≡◌, ◌≤◌, ◌*◌, length};
-ghost use Rattle.row.specs.Limits.{max_bits};
-ghost use Rattle.row.specs.Gates.{words_for, row_gate, handle_gate};
+ghost use Rattle.std.specs.Prelude.{◌≡◌, length, IfOk};
+ghost use Rattle.row.specs.Gates.{words_for, row_gate, handle_gate, gate_of};
+ghost use Rattle.row.specs.Parts.{HasBits};
+ghost use Rattle.row.specs.Tree.{opens, closes};
 
 use crate::bits::opens_at;
 use crate::limit::MAX_BITS;
 use crate::refusal::Refusal;
+use crate::row::Row;
 
 // Returns the number of words that n bits need.
 pub fn words_for(n: usize) -> usize
-    requires { n ≤ max_bits }
     ensures { result ≡ words_for n }
 {
     n.div_ceil(64)
 }
 
 // Tests a row of n bits in `words` words: refusal 2, then refusal 3.
+#[tactic(auto, unfolding(crate::specs::Gates::row_gate))]
 pub fn admit_row(words: usize, n: usize) -> Result<(), Refusal>
     ensures { result ≡ row_gate words n }
 {
@@ -28,16 +30,41 @@ pub fn admit_row(words: usize, n: usize) -> Result<(), Refusal>
     Ok(())
 }
 
-// Tests whether v is a handle: refusal 5. The row has passed refusals 2 and 3 before.
-pub fn admit_handle(words: &[u64], n: usize, v: usize) -> Result<(), Refusal>
-    requires { n ≤ 64 * length words.now }
-    ensures { result ≡ handle_gate words.now n v }
-{
-    if n <= v {
-        return Err(Refusal::NotAHandle);
+impl<'a> Row<'a> {
+    // Makes tests 2 and 3 in their order.
+    #[tactic(auto, using(crate::proofs::Gates::row_fits))]
+    pub fn new(words: &'a [u64], n: usize) -> Result<Row<'a>, Refusal>
+        ensures gate { gate_of result ≡ row_gate (length words.now) n }
+        ensures parts { IfOk result (HasBits words.now n) }
+    {
+        admit_row(words.len(), n)?;
+        Ok(Row { words, n })
     }
-    if opens_at(words, v) {
-        return Ok(());
+
+    // Tests whether position i is an open bit of the row.
+    #[tactic(auto, unfolding(crate::specs::Tree::opens))]
+    pub fn opens(self, i: usize) -> bool
+        ensures { result ≡ opens self.entry.words.now self.entry.n i }
+    {
+        i < self.n && opens_at(self.words, i)
     }
-    Err(Refusal::NotAHandle)
+
+    // Tests whether position i is a close bit of the row.
+    #[tactic(auto, unfolding(crate::specs::Tree::closes))]
+    pub fn closes(self, i: usize) -> bool
+        ensures { result ≡ closes self.entry.words.now self.entry.n i }
+    {
+        i < self.n && !opens_at(self.words, i)
+    }
+
+    // Tests whether v is a handle: refusal 5.
+    #[tactic(auto, unfolding(crate::specs::Gates::handle_gate))]
+    pub fn admit_handle(self, v: usize) -> Result<(), Refusal>
+        ensures { result ≡ handle_gate self.entry.words.now self.entry.n v }
+    {
+        if self.opens(v) {
+            return Ok(());
+        }
+        Err(Refusal::NotAHandle)
+    }
 }

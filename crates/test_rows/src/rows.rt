@@ -1,10 +1,9 @@
 // Prints the entries of the lookup table that SCOPE names. Runs the text reader, with its refusals and the words that it leaves, and the
 // one-tree test.
-use bits_lookup::Lookup;
 use std::io;
 
 fn entry(rt: &impl Print, b: u8) -> io::Result<()> {
-    test_say::number_line(rt, b"entry", Lookup::new().entry(b) as u64)
+    test_say::number_line(rt, b"entry", bits_lookup::entry(b) as u64)
 }
 
 // Reads a text into two words of 64 ones each. Prints the answer and the words afterwards.

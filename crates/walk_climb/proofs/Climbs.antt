@@ -19,8 +19,8 @@ use lib.Dec.{leb, eqb}
 use lib.IntN.{ℤ}
 use Rattle.std.specs.Prelude.{Option, Some, None, Result, Ok, Err}
 use mir.Syntax.{w64}
-use mir.Val.{to_z, of_z}
-use mir.ValLaws.{to_z-of_z}
+use mir.Val.{SFits, to_z, of_z}
+use Rattle.std.proofs.lemmas.Bool.{cond_both}
 use Rattle.std.specs.declared.ops.ControlFlow.TheVariants.{Continue}
 use Rattle.row.specs.Way.{Way, forward, backward}
 use Rattle.row.specs.declared.refusal.Refusal.{Refusal}
@@ -29,12 +29,12 @@ use Rattle.mmt_node.specs.Nodes.{node_at}
 use Rattle.mmt_layout.proofs.Places.{Place as At, place_up}
 use Rattle.bits_stretch.specs.Summary.{holds_on}
 use Rattle.walk_spec.specs.Walk.{fits, Climb, last_sibling, sibling_beyond, farther, climb}
-use Rattle.walk_spec.proofs.Ways.{kin, side_place, chosen, alike}
+use Rattle.walk_spec.proofs.Ways.{kin, met, side_place, alike}
 use Rattle.walk_spec.proofs.Steps.{climb_root, climb_up, climb_beside}
 use Rattle.walk_examine.specs.declared.node.Asked.{Asked}
 use Rattle.walk_examine.specs.declared.node.Asked.TheVariants.{Past}
 use Rattle.walk_examine.specs.Asked.{asked_of, Room}
-use Rattle.walk_examine.proofs.Asks.{passed_size, room_fits, says, past_size}
+use Rattle.walk_examine.proofs.Asks.{passed_size, back, answer, says, past_size}
 use Rattle.walk_climb.specs.declared.Place.{Place}
 use Rattle.walk_climb.specs.declared.Sibling.{Sibling}
 use Rattle.walk_climb.specs.Climbed.{climbed_of, step_of, climbed_on, Rises, Beside, Part}
@@ -56,7 +56,7 @@ module _ (w : Way) (m : ℕ) (s : List ℤ) where
   -- ---- one step up
   module _ (h k : ℕ) (r : ℤ) where
     climbed_root : k ≡ 0 → Ok None ≡ climbed_of (climb w m s k h k r 0)
-    climbed_root z = ap climbed_of (climb_root w m s h k r 0 z)
+    climbed_root z = ap climbed_of (climb_root w m s k h k r 0 z)
 
     module _ (z : k ≡ 0 → ⊥) where
       climbed_up : last_sibling w k ≡ true → climbed_of (climb w m s ((k - 1) / 2) (h + 1) ((k - 1) / 2) r 0) ≡ climbed_of (climb w m s k h k r 0)
@@ -87,11 +87,6 @@ not_last : (w : Way) (k : ℕ) → (k ≡ 0 → ⊥) → (k ≡ farther w ((k - 
 not_last forward k z e = ne_eqb (k % 2) 0 (λ d. e (omega arith))
 not_last backward k z e = ne_eqb (k % 2) 1 (λ d. e (omega arith))
 
--- the code puts the two siblings in the order in which they are met
-second : (w : Way) (p : ℕ) → (order w (2 * p + 1) (2 * p + 2)).1 ≡ farther w p
-second forward p = refl
-second backward p = refl
-
 module _ (w : Way) (k h : ℕ) where
   module _ (j g : ℕ) (p : Rises w k h j g) where
     pub rises_out : j ≡ 0 → (m : ℕ) (s : List ℤ) (r : ℤ) → Ok None ≡ climbed_of (climb w m s k h k r 0)
@@ -99,7 +94,7 @@ module _ (w : Way) (k h : ℕ) where
 
     module _ (z : j ≡ 0 → ⊥) {n : ℕ × ℕ} (d : n ≡ order w (2 * ((j - 1) / 2) + 1) (2 * ((j - 1) / 2) + 2)) where
       far_is : n.1 ≡ farther w ((j - 1) / 2)
-      far_is = rw d (second w ((j - 1) / 2))
+      far_is = rw (d, met w ((j - 1) / 2))
 
       pub rises_on : j ≡ n.1 → Rises w k h ((j - 1) / 2) (g + 1)
       rises_on e = record {
@@ -119,13 +114,17 @@ module _ (w : Way) (k h : ℕ) where
 
 -- ---- the sibling b has been passed, with the remainder q after it
 module _ (w : Way) (m : ℕ) (s : List ℤ) (k h : ℕ) (r : ℤ) (b : Sibling) (y : Beside w k h b) (o : Room (h + 2 * k) r)
-    (q : ℤ) (e : asked_of w m s b.node r ≡ Ok (Past q)) where
+    (v : SFits w64 r) {a : Result Asked Refusal} (p : a ≡ asked_of w m s b.node (to_z w64 (of_z w64 r))) (q : ℤ) (g : a ≡ Ok (Past q)) where
+  -- the machine reads r back from 64 bits
+  e : asked_of w m s b.node r ≡ Ok (Past q)
+  e = answer w m s b.node r v p g
+
   past_room : Room (b.height + 1 + 2 * b.parent) q
   past_room = omega (arith, y.room, past_size w m s b.node r q (says w m s b.node r e))
 
   -- the machine reads q back from 64 bits
   pub part_on : Part w m s k h r (Ok (Continue (record { node = b.parent; height = b.height + 1; remainder = to_z w64 (of_z w64 q) })))
-  part_on = rw (to_z-of_z w64 q (room_fits (b.height + 1 + 2 * b.parent) q past_room)) (record { result = rw e at (y.same m s r); higher = (y.under, past_room) })
+  part_on = rw (back (b.height + 1 + 2 * b.parent) q past_room) (record { result = rw e at (y.same m s r); higher = (y.under, past_room) })
 
 -- ---- the node that a climb turns to; t is the height of the root
 
@@ -144,11 +143,11 @@ module _ (w : Way) (m : ℕ) (s : List ℤ) (t : ℕ) where
       let b = sibling_beyond w k in
       let x = node_at s b in
       let j = (k - 1) / 2 in
-      chosen P (eqb k 0) (λ z. tt)
+      cond_both (eqb k 0) _ _ P (λ z. tt)
       (λ z. let n = eqb-false k 0 z in let u = place_up t h k (omega arith) p in
-      chosen P (last_sibling w k) (λ e. turned f (suc h) j r c (omega arith) u (omega arith))
-      (λ e. chosen P (leb m b) (λ a. tt)
-      (λ a. chosen P (fits x)
-      (λ g. chosen P (holds_on w x r) (λ y. (leb-false m b a, side_place t w h k n e p, omega arith))
+      cond_both (last_sibling w k) _ _ P (λ e. turned f (suc h) j r c (omega arith) u (omega arith))
+      (λ e. cond_both (leb m b) _ _ P (λ a. tt)
+      (λ a. cond_both (fits x) _ _ P
+      (λ g. cond_both (holds_on w x r) _ _ P (λ y. (leb-false m b a, side_place t w h k n e p, omega arith))
       (λ y. turned f (suc h) j (passed w r x.total) (suc c) (omega arith) u (omega (arith, passed_size w r x g))))
       (λ g. tt))))

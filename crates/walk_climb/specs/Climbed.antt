@@ -5,7 +5,6 @@ use Rattle.std.specs.Prelude.{◌≡◌, List, ℕ, ◌+◌, ◌*◌, ◌≤◌,
 use Rattle.std.specs.declared.ops.ControlFlow.{ControlFlow}
 use Rattle.std.specs.declared.ops.ControlFlow.TheVariants.{Break, Continue}
 use Rattle.row.specs.Way.{Way}
-use Rattle.mmt_layout.specs.Layout.{width}
 use Rattle.walk_spec.specs.Walk.{Climb, turn, out, misfit, climb}
 use Rattle.walk_examine.specs.Asked.{asked_of, Room}
 use Rattle.walk_examine.specs.declared.node.Asked.{Asked}
@@ -15,9 +14,8 @@ use Rattle.row.specs.declared.refusal.Refusal.TheVariants.{NodesMisfit}
 use Rattle.walk_climb.specs.declared.Place.{Place}
 use Rattle.walk_climb.specs.declared.Sibling.{Sibling}
 
--- A climb can begin at node k at height h: a buffer of t entries has room for m nodes, node k exists, and r has room for the whole climb.
-pub record Climbs (m t k h : ℕ) (r : ℤ) : Type 0 where
-  pub nodes : width * m ≤ t
+-- A climb can begin at node k of m nodes at height h: node k exists, and r has room for the whole climb.
+pub record Climbs (m k h : ℕ) (r : ℤ) : Type 0 where
   pub inside : k < m
   pub room : Room (h + 2 * k) r
 

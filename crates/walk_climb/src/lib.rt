@@ -3,7 +3,7 @@
 // The node buffer may be foreign. A sibling that is out of range is refusal 8.
 #![tactic(auto)]
 
-ghost use Rattle.std.specs.Prelude.{◌≡◌, ◌+◌, ◌*◌, ◌≤◌, length};
+ghost use Rattle.std.specs.Prelude.{◌≡◌, ◌+◌, ◌*◌, ◌≤◌};
 ghost use Rattle.row.specs.Limits.{max_bits};
 ghost use Rattle.walk_spec.specs.Walk.{climb};
 ghost use Rattle.walk_climb.specs.Climbed.{climbed_of, Climbs, Above, Part};
@@ -11,7 +11,7 @@ ghost use Rattle.walk_climb.specs.Climbed.{climbed_of, Climbs, Above, Part};
 use bits_stretch::Direction;
 use row::Refusal;
 use std::ops::ControlFlow;
-use walk_examine::{Asked, ask};
+use walk_examine::{Asked, Nodes};
 
 // Where a walk stands on its way up: at a node, at a height, with a remainder.
 #[derive(Clone, Copy, Debug, PartialEq, Eq)]
@@ -56,20 +56,20 @@ fn sibling_above<D: Direction>(k: usize, h: usize) -> Option<Sibling>
 
 // Goes up from node k at height h to the next sibling beyond, and asks it. It breaks off where the descent begins, or out of the tree.
 // If the sibling is passed, the climb goes on at the parent with the remainder after the sibling.
+#[tactic(auto, using(crate::proofs::Climbs::part_on))]
 fn up<D: Direction>(
-    nodes: &[i64],
-    all: usize,
+    nodes: &Nodes,
     k: usize,
     h: usize,
     r: i64,
 ) -> Result<ControlFlow<Option<Place>, Place>, Refusal>
-    requires { Climbs all (length nodes.now) k h r }
-    ensures { Part D.way all nodes.now k h r result }
+    requires { Climbs nodes.now.all k h r }
+    ensures { Part D.way nodes.now.all nodes.now.buffer.now k h r result }
 {
     let Some(s) = sibling_above::<D>(k, h) else {
         return Ok(ControlFlow::Break(None));
     };
-    match ask::<D>(nodes, all, s.node, r)? {
+    match nodes.ask::<D>(s.node, r)? {
         Asked::Here => Ok(ControlFlow::Break(Some(Place {
             node: s.node,
             height: s.height,
@@ -87,18 +87,17 @@ fn up<D: Direction>(
 // Climbs from node k at height h to the sibling that qualifies for r, where the descent begins. Out of the tree there is none.
 // The index of the node falls with each sibling that is asked. One call asks up to two siblings, because each call costs a stack frame.
 pub fn climb<D: Direction>(
-    nodes: &[i64],
-    all: usize,
+    nodes: &Nodes,
     k: usize,
     h: usize,
     r: i64,
 ) -> Result<Option<Place>, Refusal>
-    requires { Climbs all (length nodes.now) k h r }
-    ensures { result ≡ climbed_of (climb D.way all nodes.now k h k r 0) }
+    requires { Climbs nodes.now.all k h r }
+    ensures { result ≡ climbed_of (climb D.way nodes.now.all nodes.now.buffer.now k h k r 0) }
 {
-    match up::<D>(nodes, all, k, h, r)? {
-        ControlFlow::Continue(p) => match up::<D>(nodes, all, p.node, p.height, p.remainder)? {
-            ControlFlow::Continue(q) => climb::<D>(nodes, all, q.node, q.height, q.remainder),
+    match up::<D>(nodes, k, h, r)? {
+        ControlFlow::Continue(p) => match up::<D>(nodes, p.node, p.height, p.remainder)? {
+            ControlFlow::Continue(q) => climb::<D>(nodes, q.node, q.height, q.remainder),
             ControlFlow::Break(a) => Ok(a),
         },
         ControlFlow::Break(a) => Ok(a),

@@ -14,7 +14,6 @@ use mathlib.Core.Bool.{true, false}
 use mathlib.Core.List.{List}
 use Prim.Native.Nat.{ℕ, ◌+◌, ◌-◌, ◌*◌, ◌≤◌, ◌<◌, min}
 use native.Mathlib.Omega.{arith}
-use native.Mathlib.Decide.{dec_lt}
 use borrow.Author.Tests.{lt-ltb, le-ltb}
 use lib.IntN.{ℤ, pos, negsuc}
 use lib.ListN.{length}
@@ -26,21 +25,22 @@ use Rattle.row.specs.declared.refusal.Refusal.{Refusal}
 use Rattle.row.specs.declared.refusal.Refusal.TheVariants.{NodesMisfit}
 use Rattle.row.specs.Limits.{max_bits}
 use Rattle.ints.specs.Sides.{size}
-use Rattle.row.specs.Answer.{nothing, paper_found}
+use Rattle.row.specs.Answer.{Answer, nothing, paper_found}
 use Rattle.row.specs.Bits.{bit_at}
 use Rattle.row.specs.Way.{Way}
 use Rattle.bits_stretch.specs.Scan.{Scanned, scan}
 use Rattle.std.specs.declared.ops.ControlFlow.TheVariants.{Break, Continue}
 use Rattle.mmt_layout.specs.declared.Layout.{Layout}
 use Rattle.mmt_layout.specs.Layout.{leaves, layout_of, inner, count, max_block, max_nodes, Fine}
-use Rattle.mmt_layout.proofs.Powers.{inner_top, leaves_out}
+use Rattle.mmt_layout.proofs.Powers.{inner_top}
 use Rattle.mmt_layout.proofs.Gates.{count_small}
 use Rattle.mmt_layout.proofs.Places.{inner_is, count_is, place_leaf, leaf_in}
 use Rattle.mmt_node.proofs.Covered.{top}
 use Rattle.walk_spec.specs.Walk.{Climb, turn, out, misfit, climb, Descent, leaf, lost, descend, ends_at_once, start_block, start_scan, in_leaf, beyond, in_start, walk}
 use Rattle.walk_spec.proofs.Stretches.{block_place}
+use Rattle.walk_spec.proofs.Right.{block_of}
 use Rattle.walk_examine.specs.Asked.{Room}
-use Rattle.walk_examine.proofs.Asks.{room_fits}
+use Rattle.walk_examine.proofs.Asks.{back}
 use Rattle.walk_climb.specs.declared.Place.{Place}
 use Rattle.walk_climb.specs.Climbed.{climbed_of, Climbs}
 use Rattle.walk_climb.proofs.Climbs.{Turned, turned}
@@ -54,17 +54,17 @@ turn_is : (x : Climb) (p : Place) → climbed_of x ≡ Ok (Some p) → (c : ℕ)
 turn_is (turn j g q c) p e =
     let d : ◌≡◌ {A = Place} (record { node = j; height = g; remainder = q }) p = cc in
     (c, ap (λ (p : Place). turn p.node p.height p.remainder c) d)
-turn_is (out c) p e = let z : ◌≡◌ {A = ℕ} 0 1 = cc in absurd (omega arith)
-turn_is misfit p e = let z : ◌≡◌ {A = ℕ} 0 1 = cc in absurd (omega arith)
+turn_is (out c) p e = absurd cc
+turn_is misfit p e = absurd cc
 
 leaf_is : (x : Descent) (l : Leaf) → descended_of x ≡ Ok l → (c : ℕ) × (x ≡ leaf l.node l.remainder c)
 leaf_is (leaf j q c) l e =
     let d : ◌≡◌ {A = Leaf} (record { node = j; remainder = q }) l = cc in
     (c, ap (λ (l : Leaf). leaf l.node l.remainder c) d)
-leaf_is lost l e = let z : ◌≡◌ {A = ℕ} 0 1 = cc in absurd (omega arith)
+leaf_is lost l e = absurd cc
 
 lost_is : (x : Descent) (k : Refusal) → descended_of x ≡ Err k → (x ≡ lost) × (NodesMisfit ≡ k)
-lost_is (leaf j q c) k e = let z : ◌≡◌ {A = ℕ} 0 1 = cc in absurd (omega arith)
+lost_is (leaf j q c) k e = absurd cc
 lost_is lost k e = (refl, cc)
 
 -- ---- the layout, and the leaf of block b in it
@@ -76,7 +76,7 @@ pub record Laid (n B b : ℕ) (x : Layout) : Type 0 where
 
 module _ (n B b : ℕ) (eight : 8 ≤ B) (short : n ≤ max_bits) (l : b * B < n) where
   which : b < leaves n B
-  which = elim (dec_lt b (leaves n B)) [ yes y ↦ y | no z ↦ absurd (omega (arith, leaves_out n B (omega arith) b (omega arith))) ]
+  which = block_of n B (omega arith) b l
 
   start_there : inner n B + b < count n B
   start_there = omega (arith, which, inner_is n B (omega arith), count_is n B (omega arith))
@@ -154,11 +154,11 @@ module _ (w : Way) (ws : List ℕ) (n : ℕ) (s : List ℤ) (B b : ℕ) (r : ℤ
   laid : Laid n B b x
   laid = laid_out n B b fine.eight fine.short p.begins x e
 
-  pub climbs_at : Climbs (x.inner + x.leaves) (length s) (x.inner + b) 0 (to_z w64 (of_z w64 r))
+  pub climbs_at : Climbs (x.inner + x.leaves) (x.inner + b) 0 (to_z w64 (of_z w64 r))
   climbs_at =
       let l = laid in
       let o = start_room w ws n s B b r fine.eight fine.short p.begins p.near in
-      rw (to_z-of_z w64 r v, l.all, l.first) (record { nodes = omega (arith, fine.nodes); inside = l.there; room = o })
+      rw (to_z-of_z w64 r v, l.all, l.first) (record { inside = l.there; room = o })
 
   module _ {z : Result (Option Place) Refusal} (f : z ≡ climbed_of (climb w (x.inner + x.leaves) s (x.inner + b) 0 (x.inner + b) (to_z w64 (of_z w64 r)) 0))
       (k : Place) (g : z ≡ Ok (Some k)) where
@@ -168,14 +168,14 @@ module _ (w : Way) (ws : List ℕ) (n : ℕ) (s : List ℤ) (B b : ℕ) (r : ℤ
     turn_at : Turned (count n B) (top n B) (Ok (Some k))
     turn_at = turn_there w ws n s B b r fine.eight fine.short p.begins p.near k climbed
 
-    pub descends_at : Descends (x.inner + x.leaves) (length s) k.node k.height (to_z w64 (of_z w64 k.remainder))
+    pub descends_at : Descends (x.inner + x.leaves) k.node k.height (to_z w64 (of_z w64 k.remainder))
     descends_at =
-        rw (to_z-of_z w64 k.remainder (room_fits k.height k.remainder turn_at.2), laid.all)
-        (record { nodes = omega (arith, fine.nodes); inside = turn_at.0; few = laid.few; room = turn_at.2 })
+        rw (back k.height k.remainder turn_at.2, laid.all)
+        (record { inside = turn_at.0; few = laid.few; room = turn_at.2 })
 
     module _ {y : Result Leaf Refusal} (d : y ≡ descended_of (descend w (x.inner + x.leaves) s k.height k.node (to_z w64 (of_z w64 k.remainder)) 0)) where
       landing : y ≡ descended_of (descend w (count n B) s k.height k.node k.remainder 0)
-      landing = rw (to_z-of_z w64 k.remainder (room_fits k.height k.remainder turn_at.2), laid.all) at d
+      landing = rw (back k.height k.remainder turn_at.2, laid.all) at d
 
       pub lost_answer : {q : Refusal} → y ≡ Err q → paper_found (Err q) ≡ (beyond w ws n s B b r).answer
       lost_answer {q} l = beyond_lost w ws n s B b r k climbed q (sym landing ∙ l)
@@ -185,7 +185,7 @@ module _ (w : Way) (ws : List ℕ) (n : ℕ) (s : List ℤ) (B b : ℕ) (r : ℤ
         leaf_at = leaf_there w ws n s B b r fine.eight fine.short p.begins p.near k climbed j (sym landing ∙ l)
 
         leaf_back : to_z w64 (of_z w64 j.remainder) ≡ j.remainder
-        leaf_back = to_z-of_z w64 j.remainder (room_fits 0 j.remainder leaf_at.2)
+        leaf_back = back 0 j.remainder leaf_at.2
 
         pub leaf_after : x.inner ≤ j.node
         leaf_after = rw laid.first leaf_at.0
@@ -195,8 +195,9 @@ module _ (w : Way) (ws : List ℕ) (n : ℕ) (s : List ℤ) (B b : ℕ) (r : ℤ
             rw (leaf_back, laid.first)
             (record { begins = leaf_in n B j.node (omega (arith, fine.eight)) leaf_at.1 leaf_at.0; room = leaf_at.2 })
 
-        pub leaf_answer : (in_leaf w ws n s B (inside w ws n s B (j.node - x.inner) (to_z w64 (of_z w64 j.remainder))) 0).answer ≡ (beyond w ws n s B b r).answer
-        leaf_answer = rw (leaf_back, laid.first) (beyond_leaf w ws n s B b r k climbed j (sym landing ∙ l))
+        pub leaf_answer : {a : Answer} → a ≡ (in_leaf w ws n s B (inside w ws n s B (j.node - x.inner) (to_z w64 (of_z w64 j.remainder))) 0).answer
+            → a ≡ (beyond w ws n s B b r).answer
+        leaf_answer t = t ∙ rw (leaf_back, laid.first) (beyond_leaf w ws n s B b r k climbed j (sym landing ∙ l))
 
 -- ---- the test whether |r| > n, where the machine reads r back from 64 bits
 abs_is : (r : ℤ) → unsigned_abs r ≡ size r

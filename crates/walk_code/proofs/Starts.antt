@@ -1,5 +1,4 @@
 -- The start block is scanned in two parts: the first bits up to a byte boundary, then the rest.
---   block_bytes: a block begins at a byte boundary
 --   edge_fwd_in, edge_bwd_in: the boundary is not outside the start block
 --   halves: the two parts together are the scan of the start block
 --   Sized, sized: the first bits begin in the row, the rest lies in the row, and together they are at most a block
@@ -12,6 +11,7 @@ use mathlib.Core.Path.{◌≡◌, refl, sym, ◌∙◌}
 use mathlib.Core.Bool.{false}
 use mathlib.Core.List.{List}
 use Prim.Native.Nat.{ℕ, ◌+◌, ◌-◌, ◌*◌, ◌/◌, ◌%◌, ◌≤◌, ◌<◌, min}
+use native.Mathlib.Nat.{div-mul-le_self, lt-div-mul-add}
 use native.Mathlib.Omega.{arith}
 use lib.IntN.{ℤ}
 use lib.ListN.{length}
@@ -29,25 +29,20 @@ use Rattle.bits_stretch.specs.Scan.{Scanned, order, scan}
 use Rattle.std.specs.declared.ops.ControlFlow.TheVariants.{Break, Continue}
 use Rattle.bits_stretch.proofs.Parts.{scan_onward, scan_size}
 use Rattle.mmt_layout.specs.Layout.{max_block, Fine}
+use Rattle.mmt_layout.proofs.Powers.{block_edge}
 use Rattle.walk_spec.specs.Walk.{ends_at_once, start_block, start_scan, in_start, walk}
 use Rattle.walk_spec.proofs.Stretches.{over, over_split}
-use Rattle.walk_spec.proofs.Right.{inside, low, high}
+use Rattle.walk_spec.proofs.Right.{inside}
 use Rattle.walk_code.specs.declared.start.FirstBits.{FirstBits}
 use Rattle.walk_code.specs.WalkParts.{first_bits, Starts, Stretch, rest_of_start, scan_of, RestOfStart, StartPassed}
 use Rattle.walk_code.proofs.Answers.{walk_starts}
 
-block_bytes : (b B : ℕ) → B % 8 ≡ 0 → b * B % 8 ≡ 0
-block_bytes b B h = go (B / 8) (omega arith)
-  where
-    go : (c : ℕ) → B ≡ 8 * c → b * B % 8 ≡ 0
-    go c e = rw e (omega arith)
-
 module _ (n B : ℕ) (eight : 8 ≤ B) (eights : B % 8 ≡ 0) (i : ℕ) where
   edge_fwd_in : (i + 1 + 7) / 8 * 8 ≤ (i + 1) / B * B + B
-  edge_fwd_in = omega (arith, high n B (omega arith) (i + 1), block_bytes ((i + 1) / B + 1) B eights)
+  edge_fwd_in = omega (arith, lt-div-mul-add {a = i + 1} {b = B} (omega arith), block_edge ((i + 1) / B + 1) B eights)
 
   edge_bwd_in : 0 < i → (i - 1) / B * B ≤ i / 8 * 8
-  edge_bwd_in l = omega (arith, low n B (omega arith) (i - 1), block_bytes ((i - 1) / B) B eights)
+  edge_bwd_in l = omega (arith, div-mul-le_self (i - 1) B, block_edge ((i - 1) / B) B eights)
 
   abbrev rest : Way → Stretch
   rest w = rest_of_start w n B (first_bits w n i)
@@ -76,10 +71,10 @@ module _ (n B : ℕ) (eight : 8 ≤ B) (eights : B % 8 ≡ 0) (i : ℕ) where
   sized : (w : Way) → ends_at_once w n i ≡ false → Sized w
   sized forward e =
       let l = inside forward n i e in
-      record { begins = l; order = omega (arith, edge_fwd_in); inside = omega arith; most = omega (arith, edge_fwd_in, low n B (omega arith) (i + 1)) }
+      record { begins = l; order = omega (arith, edge_fwd_in); inside = omega arith; most = omega (arith, edge_fwd_in, div-mul-le_self (i + 1) B) }
   sized backward e =
       let l = inside backward n i e in
-      let h = high n B (omega arith) (i - 1) in
+      let h = lt-div-mul-add {a = i - 1} {b = B} (omega arith) in
       record { begins = omega arith; order = edge_bwd_in l.0; inside = omega arith; most = omega (arith, edge_bwd_in l.0) }
 
 starts_at : (w : Way) (n B i : ℕ) → start_block w B i ≡ (first_bits w n i).first / B
@@ -134,4 +129,4 @@ module _ (w : Way) (ws : List ℕ) (n B : ℕ) (pB : 0 < B) (r : ℤ) (v : SFits
   pub rest_passed : StartPassed n B (b.first / B) (to_z w64 (of_z w64 q))
   rest_passed =
       rw (to_z-of_z w64 q (let l = rest_left in omega (zsum, l)))
-      (record { begins = omega (arith, low n B pB b.first, p.begins); near = rest_left })
+      (record { begins = omega (arith, div-mul-le_self b.first B, p.begins); near = rest_left })

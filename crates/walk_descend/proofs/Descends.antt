@@ -2,22 +2,24 @@
 --   Reached: a claim holds for the node that a descent reaches
 --   descend_count: the count does not change the result
 --   by_first, by_second: the result of one level for each answer of the first child, and of the second
---   down_first, down_second, down_lost: one level down is decided by the first child, or by the second, or is refused
+--   down_near, down_none, down_err: one level down, if the first child qualifies, does not exist, or is out of range
 --   past_room: after a passed first child, the remainder has room for the second
+--   down_far, down_lost, down_far_err: one level down, if the second child qualifies, does not, or is out of range
 --   on_down: the descent goes on by b levels
 --   descended_leaf: a descent with no level left stays at its node
 --   kept: a claim that holds for the children of a node if it holds for the node also holds for the node reached
 --   told_then: a descent by a levels and then by b levels is the descent by a + b levels
---   told_left, told_back: after the a levels a descent by the b levels left can begin, and the remainder fits
---   two_then, two_left, two_back: the same after the first call of a descent, which goes down by up to two levels
---   four_then, four_left, four_back: the same after the second call, by up to four levels
+--   told_left: after the a levels a descent by the b levels left can begin
+--   one_err, one_left, one_on: after the first call of `down_two`, a refusal, the second call's condition and its result
+--   two_err, two_left: the same after the first call of `descend`
+--   four_err, four_end, four_left, four_on: the same after its second call, and its result if no level is left
 --   Landed, landed: the node that a descent reaches exists and is a block leaf, and the remainder has room for the bits of its block
 -- Assumes nothing.
 use mathlib.Core.Path.{◌≡◌, refl, sym, ap, ◌∙◌}
 use mathlib.Core.Logic.{◌⊎◌, ⊎_elim}
 use mathlib.Core.Bool.{true}
 use mathlib.Core.List.{List}
-use Prim.Native.Nat.{ℕ, zero, suc, ◌+◌, ◌-◌, ◌*◌, ◌<◌, min}
+use Prim.Native.Nat.{ℕ, zero, suc, ◌+◌, ◌-◌, ◌*◌, ◌≤◌, ◌<◌, min}
 use native.Mathlib.Nat.{zero-add, add-zero, suc-add}
 use native.Mathlib.Omega.{arith}
 use borrow.Author.Tests.{leb-false}
@@ -27,7 +29,8 @@ use mir.Syntax.{w64}
 use mir.Val.{SFits, to_z, of_z}
 use mir.ValLaws.{to_z-of_z}
 use Rattle.std.specs.Prelude.{Result, Ok, Err}
-use Rattle.row.specs.Way.{Way, forward, backward}
+use Rattle.std.proofs.lemmas.Bool.{cond_both}
+use Rattle.row.specs.Way.{Way}
 use Rattle.row.specs.declared.refusal.Refusal.{Refusal}
 use Rattle.row.specs.declared.refusal.Refusal.TheVariants.{NodesMisfit}
 use Rattle.bits_stretch.specs.declared.summary.Summary.{Summary}
@@ -36,12 +39,12 @@ use Rattle.mmt_node.specs.Nodes.{node_at}
 use Rattle.mmt_layout.proofs.Places.{Place}
 use Rattle.bits_stretch.specs.Summary.{holds_on}
 use Rattle.walk_spec.specs.Walk.{fits, Descent, nearer, farther, descend}
-use Rattle.walk_spec.proofs.Ways.{near_place, far_place, chosen, alike}
+use Rattle.walk_spec.proofs.Ways.{met, near_place, far_place, alike}
 use Rattle.walk_spec.proofs.Steps.{descend_leaf}
 use Rattle.walk_examine.specs.declared.node.Asked.{Asked}
 use Rattle.walk_examine.specs.declared.node.Asked.TheVariants.{Here, Past, Absent}
 use Rattle.walk_examine.specs.Asked.{asked_of, Room}
-use Rattle.walk_examine.proofs.Asks.{passed_size, room_fits, says, past_size}
+use Rattle.walk_examine.proofs.Asks.{passed_size, room_fits, back, says, past_size}
 use Rattle.walk_descend.specs.declared.Leaf.{Leaf}
 use Rattle.walk_descend.specs.Descended.{descended_of, Descends}
 
@@ -49,11 +52,6 @@ use Rattle.walk_descend.specs.Descended.{descended_of, Descends}
 abbrev pub Reached : (ℕ → ℕ → ℤ → Type 0) → ℕ → Result Leaf Refusal → Type 0
 Reached P b (Ok l) = P b l.node l.remainder
 Reached P b (Err e) = Unit {0}
-
--- the code puts the two children of node k in the order in which they are met
-met : (w : Way) (k : ℕ) → order w (2 * k + 1) (2 * k + 2) ≡ (nearer w k, farther w k)
-met forward k = refl
-met backward k = refl
 
 module _ (w : Way) (m : ℕ) (s : List ℤ) where
   -- ---- the count
@@ -103,23 +101,43 @@ module _ (w : Way) (m : ℕ) (s : List ℤ) where
   module _ (k : ℕ) (r : ℤ) (o : Room 1 r) {n : ℕ × ℕ} (d : n ≡ order w (2 * k + 1) (2 * k + 2))
       {a : Result Asked Refusal} (p : a ≡ asked_of w m s n.0 (to_z w64 (of_z w64 r))) where
     asked : a ≡ asked_of w m s n.0 r
-    asked = rw (to_z-of_z w64 r (room_fits 1 r o)) at p
+    asked = rw (back 1 r o) at p
 
-    pub down_first : {b : Result Asked Refusal} → a ≡ b → by_first n.0 n.1 r b ≡ descended_of (descend w m s 1 k r 0)
-    down_first e = rw (sym e, asked, d, met w k) (down_asked k r)
+    abbrev Down : Result Leaf Refusal → Type 0
+    Down x = x ≡ descended_of (descend w m s 1 k r 0)
+
+    first : {b : Result Asked Refusal} → a ≡ b → Down (by_first n.0 n.1 r b)
+    first e = rw (sym e, asked, d, met w k) (down_asked k r)
+
+    pub down_near : a ≡ Ok Here → Down (Ok (record { node = n.0; remainder = to_z w64 (of_z w64 r) }))
+    down_near e = rw (back 1 r o) (first e)
+
+    pub down_none : a ≡ Ok Absent → Down (Err NodesMisfit)
+    down_none = first
+
+    pub down_err : {e : Refusal} → a ≡ Err e → Down (Err e)
+    down_err = first
 
     module _ (q : ℤ) (e : a ≡ Ok (Past q)) where
       -- after a passed first child, the remainder has room for the second
-      pub past_room : Room 0 q
-      past_room = omega (arith, past_size w m s n.0 r q (says w m s n.0 r (sym asked ∙ e)))
+      past : Room 0 q
+      past = omega (arith, past_size w m s n.0 r q (says w m s n.0 r (sym asked ∙ e)))
 
-      pub down_second : {c b : Result Asked Refusal} → c ≡ asked_of w m s n.1 (to_z w64 (of_z w64 q)) → c ≡ b
-          → by_second n.0 n.1 q b ≡ descended_of (descend w m s 1 k r 0)
-      down_second f g = rw (sym g, rw (to_z-of_z w64 q (room_fits 0 q past_room)) at f) (down_first e)
+      pub past_room : Room 0 (to_z w64 (of_z w64 q))
+      past_room = rw (back 0 q past) past
 
-      pub down_lost : {c : Result Asked Refusal} {b : Asked} → c ≡ asked_of w m s n.1 (to_z w64 (of_z w64 q)) → c ≡ Ok b
-          → ((z : ℤ) × (b ≡ Past z)) ⊎ (b ≡ Absent) → Err NodesMisfit ≡ descended_of (descend w m s 1 k r 0)
-      down_lost f g = ⊎_elim (λ u. down_second f (rw u.1 at g)) (λ u. down_second f (rw u at g))
+      module _ {c : Result Asked Refusal} (f : c ≡ asked_of w m s n.1 (to_z w64 (of_z w64 q))) where
+        second : {b : Result Asked Refusal} → c ≡ b → Down (by_second n.0 n.1 q b)
+        second g = rw (sym g, rw (back 0 q past) at f) (first e)
+
+        pub down_far : c ≡ Ok Here → Down (Ok (record { node = n.1; remainder = to_z w64 (of_z w64 q) }))
+        down_far g = rw (back 0 q past) (second g)
+
+        pub down_lost : {b : Asked} → c ≡ Ok b → ((z : ℤ) × (b ≡ Past z)) ⊎ (b ≡ Absent) → Down (Err NodesMisfit)
+        down_lost g = ⊎_elim (λ u. second (rw u.1 at g)) (λ u. second (rw u at g))
+
+        pub down_far_err : {e : Refusal} → c ≡ Err e → Down (Err e)
+        down_far_err = second
 
   -- ---- down by a levels, then by b levels
   abbrev pub on_down : ℕ → Result Leaf Refusal → Result Leaf Refusal
@@ -158,12 +176,12 @@ module _ (w : Way) (m : ℕ) (s : List ℤ) where
         let y = node_at s j in
         let q = passed w r x.total in
         let o : P (suc (a + b)) k r = rw (suc-add a b) at p in
-        chosen Q (leb m i) (λ u. tt)
-        (λ u. chosen Q (fits x)
-        (λ g. chosen Q (holds_on w x r) (λ v. kept a b i r (suc c) (near (a + b) k r (leb-false m i u) o))
-        (λ v. chosen Q (leb m j) (λ e. tt)
-        (λ e. chosen Q (fits y)
-        (λ d. chosen Q (holds_on w y q) (λ v. kept a b j q (suc (suc c)) (far (a + b) k r x g (leb-false m j e) o)) (λ v. tt))
+        cond_both (leb m i) _ _ Q (λ u. tt)
+        (λ u. cond_both (fits x) _ _ Q
+        (λ g. cond_both (holds_on w x r) _ _ Q (λ v. kept a b i r (suc c) (near (a + b) k r (leb-false m i u) o))
+        (λ v. cond_both (leb m j) _ _ Q (λ e. tt)
+        (λ e. cond_both (fits y) _ _ Q
+        (λ d. cond_both (holds_on w y q) _ _ Q (λ v. kept a b j q (suc (suc c)) (far (a + b) k r x g (leb-false m j e) o)) (λ v. tt))
         (λ d. tt))))
         (λ g. tt))
 
@@ -173,48 +191,78 @@ module _ (w : Way) (m : ℕ) (s : List ℤ) where
     went : c ≡ descended_of (descend w m s a k r 0)
     went = rw (to_z-of_z w64 r f) at p
 
-    pub told_then : {d : Result Leaf Refusal} → c ≡ d → on_down b d ≡ descended_of (descend w m s h k r 0)
+    told_then : {d : Result Leaf Refusal} → c ≡ d → on_down b d ≡ descended_of (descend w m s h k r 0)
     told_then e = rw (z, sym e, went) (then_down a b k r 0)
 
-    module _ (l : Leaf) (e : c ≡ Ok l) {n : ℕ} (t : Descends m n k h r) where
+    module _ (l : Leaf) (e : c ≡ Ok l) (t : Descends m k h r) where
       fallen : (l.node < m) × Room b l.remainder
       fallen =
           rw (sym went ∙ e) at
           (kept (λ g j q. (j < m) × Room g q) (λ g j q u p. let v = p.1 in (u, omega arith))
           (λ g j q x y u p. let v = p.1 in (u, omega (arith, passed_size w q x y))) a b k r 0 (t.inside, rw z at t.room))
 
-      pub told_left : Descends m n l.node b l.remainder
-      told_left = record { nodes = t.nodes; inside = fallen.0; few = t.few; room = fallen.1 }
+      told_left : Descends m l.node b l.remainder
+      told_left = record { inside = fallen.0; few = t.few; room = fallen.1 }
 
-      pub told_back : to_z w64 (of_z w64 l.remainder) ≡ l.remainder
-      told_back = to_z-of_z w64 l.remainder (room_fits b l.remainder fallen.1)
+  -- ---- the calls of `down_two` by up to two levels, h of them in all
+  module _ (h k : ℕ) (some : 0 < h) (r : ℤ) (f : SFits w64 r) {c : Result Leaf Refusal} (p : c ≡ descended_of (descend w m s 1 k (to_z w64 (of_z w64 r)) 0)) where
+    one_then : {x : Result Leaf Refusal} → c ≡ x → on_down (min h 2 - 1) x ≡ descended_of (descend w m s (min h 2) k r 0)
+    one_then = told_then 1 (min h 2 - 1) (min h 2) k r (omega arith) f p
 
-  -- ---- the two calls of a descent by h levels, each of which goes down by up to two
+    pub one_err : {e : Refusal} → c ≡ Err e → Err e ≡ descended_of (descend w m s (min h 2) k r 0)
+    one_err = one_then
+
+    module _ (l : Leaf) (e : c ≡ Ok l) (t : Descends m k h r) where
+      left : Descends m l.node (h - 1) l.remainder
+      left = told_left 1 (h - 1) h k r (omega arith) f p l e t
+
+      pub one_left : 1 < h → Descends m l.node 1 (to_z w64 (of_z w64 l.remainder))
+      one_left o = rw (back (h - 1) l.remainder left.room) (record { inside = left.inside; few = left.few; room = (let q = left.room in omega arith) })
+
+      pub one_on : 1 < h → {x : Result Leaf Refusal} → x ≡ descended_of (descend w m s 1 l.node (to_z w64 (of_z w64 l.remainder)) 0)
+          → x ≡ descended_of (descend w m s (min h 2) k r 0)
+      one_on o q =
+          let d : min h 2 - 1 ≡ 1 = omega arith in
+          (rw (back (h - 1) l.remainder left.room) at q) ∙ (rw d at (one_then e))
+
+  -- ---- the calls of `descend` by h levels, each of which goes down by up to two
   module _ (h k : ℕ) (r : ℤ) (f : SFits w64 r) {c : Result Leaf Refusal} (p : c ≡ descended_of (descend w m s (min h 2) k (to_z w64 (of_z w64 r)) 0)) where
-    pub two_then : {d : Result Leaf Refusal} → c ≡ d → on_down (h - 2) d ≡ descended_of (descend w m s h k r 0)
+    two_then : {d : Result Leaf Refusal} → c ≡ d → on_down (h - 2) d ≡ descended_of (descend w m s h k r 0)
     two_then = told_then (min h 2) (h - 2) h k r (omega arith) f p
 
-    module _ (l : Leaf) (e : c ≡ Ok l) {n : ℕ} (t : Descends m n k h r) where
-      pub two_left : Descends m n l.node (h - 2) l.remainder
-      two_left = told_left (min h 2) (h - 2) h k r (omega arith) f p l e t
+    pub two_err : {e : Refusal} → c ≡ Err e → Err e ≡ descended_of (descend w m s h k r 0)
+    two_err = two_then
 
-      pub two_back : to_z w64 (of_z w64 l.remainder) ≡ l.remainder
-      two_back = to_z-of_z w64 l.remainder (room_fits (h - 2) l.remainder two_left.room)
+    module _ (l : Leaf) (e : c ≡ Ok l) (t : Descends m k h r) where
+      left₂ : Descends m l.node (h - 2) l.remainder
+      left₂ = told_left (min h 2) (h - 2) h k r (omega arith) f p l e t
+
+      pub two_left : Descends m l.node (h - 2) (to_z w64 (of_z w64 l.remainder))
+      two_left = rw (back (h - 2) l.remainder left₂.room) left₂
 
       module _ {d : Result Leaf Refusal} (q : d ≡ descended_of (descend w m s (min (h - 2) 2) l.node (to_z w64 (of_z w64 l.remainder)) 0)) where
-        pub four_then : {x : Result Leaf Refusal} → d ≡ x → on_down (h - 4) x ≡ descended_of (descend w m s h k r 0)
-        four_then u =
-            let v = room_fits (h - 2) l.remainder two_left.room in
-            told_then (min (h - 2) 2) (h - 4) (h - 2) l.node l.remainder (omega arith) v q u ∙ two_then e
+        fits₂ : SFits w64 l.remainder
+        fits₂ = room_fits (h - 2) l.remainder left₂.room
+
+        four_then : {x : Result Leaf Refusal} → d ≡ x → on_down (h - 4) x ≡ descended_of (descend w m s h k r 0)
+        four_then u = told_then (min (h - 2) 2) (h - 4) (h - 2) l.node l.remainder (omega arith) fits₂ q u ∙ two_then e
+
+        pub four_err : {e : Refusal} → d ≡ Err e → Err e ≡ descended_of (descend w m s h k r 0)
+        four_err = four_then
 
         module _ (i : Leaf) (u : d ≡ Ok i) where
-          pub four_left : Descends m n i.node (h - 4) i.remainder
-          four_left =
-              let v = room_fits (h - 2) l.remainder two_left.room in
-              told_left (min (h - 2) 2) (h - 4) (h - 2) l.node l.remainder (omega arith) v q i u two_left
+          pub four_end : h ≤ 4 → Ok i ≡ descended_of (descend w m s h k r 0)
+          four_end o = descended_leaf (h - 4) i.node i.remainder (omega arith) ∙ four_then u
 
-          pub four_back : to_z w64 (of_z w64 i.remainder) ≡ i.remainder
-          four_back = to_z-of_z w64 i.remainder (room_fits (h - 4) i.remainder four_left.room)
+          left₄ : Descends m i.node (h - 4) i.remainder
+          left₄ = told_left (min (h - 2) 2) (h - 4) (h - 2) l.node l.remainder (omega arith) fits₂ q i u left₂
+
+          pub four_left : Descends m i.node (h - 4) (to_z w64 (of_z w64 i.remainder))
+          four_left = rw (back (h - 4) i.remainder left₄.room) left₄
+
+          pub four_on : {x : Result Leaf Refusal} → x ≡ descended_of (descend w m s (h - 4) i.node (to_z w64 (of_z w64 i.remainder)) 0)
+              → x ≡ descended_of (descend w m s h k r 0)
+          four_on z = (rw (back (h - 4) i.remainder left₄.room) at z) ∙ four_then u
 
 -- ---- the end of a descent; t is the height of the root
 

@@ -3,13 +3,13 @@
 // The node buffer may be foreign. If no child qualifies, or one is out of range or missing, the descent is refused by 8.
 #![tactic(auto)]
 
-ghost use Rattle.std.specs.Prelude.{◌≡◌, min, length};
+ghost use Rattle.std.specs.Prelude.{◌≡◌, min};
 ghost use Rattle.walk_spec.specs.Walk.{descend};
 ghost use Rattle.walk_descend.specs.Descended.{descended_of, Descends};
 
 use bits_stretch::Direction;
 use row::Refusal;
-use walk_examine::{Asked, ask};
+use walk_examine::{Asked, Nodes};
 
 // A node that a descent has reached, and the remainder there. It is a block leaf if no level is left.
 #[derive(Clone, Copy, Debug, PartialEq, Eq)]
@@ -20,17 +20,18 @@ pub struct Leaf {
 
 // Goes down from node k by one level, to the child that qualifies. It asks the child that is met first, for r.
 // If that one is passed, it asks the other child for the remainder after it.
-fn down<D: Direction>(nodes: &[i64], all: usize, k: usize, r: i64) -> Result<Leaf, Refusal>
-    requires { Descends all (length nodes.now) k 1 r }
-    ensures { result ≡ descended_of (descend D.way all nodes.now 1 k r 0) }
+#[tactic(auto, using(crate::proofs::Descends::down_near, crate::proofs::Descends::past_room, crate::proofs::Descends::down_far))]
+fn down<D: Direction>(nodes: &Nodes, k: usize, r: i64) -> Result<Leaf, Refusal>
+    requires { Descends nodes.now.all k 1 r }
+    ensures { result ≡ descended_of (descend D.way nodes.now.all nodes.now.buffer.now 1 k r 0) }
 {
     let (near, far) = D::order(2 * k + 1, 2 * k + 2);
-    match ask::<D>(nodes, all, near, r)? {
+    match nodes.ask::<D>(near, r)? {
         Asked::Here => Ok(Leaf {
             node: near,
             remainder: r,
         }),
-        Asked::Past(q) => match ask::<D>(nodes, all, far, q)? {
+        Asked::Past(q) => match nodes.ask::<D>(far, q)? {
             Asked::Here => Ok(Leaf {
                 node: far,
                 remainder: q,
@@ -42,15 +43,10 @@ fn down<D: Direction>(nodes: &[i64], all: usize, k: usize, r: i64) -> Result<Lea
 }
 
 // Goes down from node k with h levels left, by two levels or by h if h is less.
-fn down_two<D: Direction>(
-    nodes: &[i64],
-    all: usize,
-    k: usize,
-    h: usize,
-    r: i64,
-) -> Result<Leaf, Refusal>
-    requires { Descends all (length nodes.now) k h r }
-    ensures { result ≡ descended_of (descend D.way all nodes.now (min h 2) k r 0) }
+#[tactic(auto, using(crate::proofs::Descends::descended_leaf, crate::proofs::Descends::one_err))]
+fn down_two<D: Direction>(nodes: &Nodes, k: usize, h: usize, r: i64) -> Result<Leaf, Refusal>
+    requires { Descends nodes.now.all k h r }
+    ensures { result ≡ descended_of (descend D.way nodes.now.all nodes.now.buffer.now (min h 2) k r 0) }
 {
     if h == 0 {
         return Ok(Leaf {
@@ -58,32 +54,27 @@ fn down_two<D: Direction>(
             remainder: r,
         });
     }
-    let one = down::<D>(nodes, all, k, r)?;
+    let one = down::<D>(nodes, k, r)?;
     if h == 1 {
         return Ok(one);
     }
-    down::<D>(nodes, all, one.node, one.remainder)
+    down::<D>(nodes, one.node, one.remainder)
 }
 
 // Descends from node k with h levels left to a block leaf. The levels left fall by up to four per call,
 // because each call costs a stack frame and its result is copied on the way back.
-pub fn descend<D: Direction>(
-    nodes: &[i64],
-    all: usize,
-    k: usize,
-    h: usize,
-    r: i64,
-) -> Result<Leaf, Refusal>
-    requires { Descends all (length nodes.now) k h r }
-    ensures { result ≡ descended_of (descend D.way all nodes.now h k r 0) }
+#[tactic(auto, using(crate::proofs::Descends::two_err))]
+pub fn descend<D: Direction>(nodes: &Nodes, k: usize, h: usize, r: i64) -> Result<Leaf, Refusal>
+    requires { Descends nodes.now.all k h r }
+    ensures { result ≡ descended_of (descend D.way nodes.now.all nodes.now.buffer.now h k r 0) }
 {
-    let two = down_two::<D>(nodes, all, k, h, r)?;
+    let two = down_two::<D>(nodes, k, h, r)?;
     if h <= 2 {
         return Ok(two);
     }
-    let four = down_two::<D>(nodes, all, two.node, h - 2, two.remainder)?;
+    let four = down_two::<D>(nodes, two.node, h - 2, two.remainder)?;
     if h <= 4 {
         return Ok(four);
     }
-    descend::<D>(nodes, all, four.node, h - 4, four.remainder)
+    descend::<D>(nodes, four.node, h - 4, four.remainder)
 }

@@ -3,13 +3,9 @@
 --   fits_size: so has the total of a node whose entries are in range
 --   passed_size: a passed node makes the remainder larger by at most 2^32
 --   room_fits: a remainder with room fits into an i64
---   passed_fits: so does the remainder after a passed node
---   told: what the result b of the test `near_zero(z)` says about z
---   examined_total, examined_least, examined_greatest: the node is a misfit because of this entry
---   examined_fit: all entries are in range
 --   Looked, looked: what each result of `examine` says about the node
 --   back: the machine reads a remainder with room back as it is
---   total_back, total_room, past_back: so it does with the total of a node in range, and with the remainder after the node
+--   total_room, past_room: a remainder with room also has room for the total of a node in range
 --   asked_absent, asked_misfit, asked_here, asked_past: the answer of a node in each of the four cases
 --   answer: the answer of the node, where the machine reads the remainder back from 64 bits
 --   Says, says: what each answer says about the node
@@ -47,7 +43,7 @@ use Rattle.walk_examine.specs.declared.node.Asked.TheVariants.{Here, Past, Absen
 use Rattle.walk_examine.specs.Asked.{examined_of, asked_of, Room}
 
 -- ---- sizes
-pub near_size : (z : ℤ) → in_range z ≡ true → size z ≤ max_bits
+near_size : (z : ℤ) → in_range z ≡ true → size z ≤ max_bits
 unfolding in_range
 near_size (pos n) e = let h = and_right (le_z (neg_ℤ (pos max_bits)) (pos n)) (le_z (pos n) (pos max_bits)) e in omega zsum
 near_size (negsuc n) e = let h = and_left (le_z (neg_ℤ (pos max_bits)) (negsuc n)) (le_z (negsuc n) (pos max_bits)) e in omega zsum
@@ -64,33 +60,10 @@ passed_size backward r x e = omega (arith, plus_size r x.total, fits_size x e)
 pub room_fits : (c : ℕ) (r : ℤ) → Room c r → SFits w64 r
 room_fits c r h = omega zsum
 
-pub passed_fits : (w : Way) (r : ℤ) (x : Summary) → fits x ≡ true → Room 0 r → SFits w64 (passed w r x.total)
-passed_fits w r x e h = omega (zsum, passed_size w r x e)
-
--- ---- the test of an entry z, where the machine reads z back from 64 bits
-pub told : {z : ℤ} {b : Bool} → SFits w64 z → b ≡ in_range (to_z w64 (of_z w64 z)) → in_range z ≡ b
-told {z} {b} f q = sym (rw (to_z-of_z w64 z f) at q)
-
 -- ---- an examined node with the entries x
 module _ (x : Summary) where
-  pub examined_total : in_range x.total ≡ false → Err NodesMisfit ≡ examined_of x
-  unfolding examined_of fits
-  examined_total p = rw p
-
-  pub examined_least : in_range x.total ≡ true → in_range x.least ≡ false → Err NodesMisfit ≡ examined_of x
-  unfolding examined_of fits
-  examined_least p q = rw (p, q)
-
-  pub examined_greatest : in_range x.total ≡ true → in_range x.least ≡ true → in_range x.greatest ≡ false → Err NodesMisfit ≡ examined_of x
-  unfolding examined_of fits
-  examined_greatest p q t = rw (p, q, t)
-
-  pub examined_fit : in_range x.total ≡ true → in_range x.least ≡ true → in_range x.greatest ≡ true → Ok x ≡ examined_of x
-  unfolding examined_of fits
-  examined_fit p q t = rw (p, q, t)
-
   -- what each result of `examine` says about x
-  abbrev pub Looked : Result Summary Refusal → Type 0
+  abbrev Looked : Result Summary Refusal → Type 0
   Looked (Ok y) = (fits x ≡ true) × (x ≡ y)
   Looked (Err e) = (fits x ≡ false) × (NodesMisfit ≡ e)
 
@@ -98,27 +71,30 @@ module _ (x : Summary) where
   looks true e = (e, refl)
   looks false e = (e, refl)
 
-  pub looked : {b : Result Summary Refusal} → examined_of x ≡ b → Looked b
+  looked : {b : Result Summary Refusal} → examined_of x ≡ b → Looked b
   unfolding examined_of
   looked {b} q = rw (sym q) (looks (fits x) refl)
 
 -- ---- the remainder r and the total of an examined node, which the machine reads back from 64 bits
-pub back : (r : ℤ) → Room 0 r → to_z w64 (of_z w64 r) ≡ r
-back r o = to_z-of_z w64 r (room_fits 0 r o)
+pub back : (c : ℕ) (r : ℤ) → Room c r → to_z w64 (of_z w64 r) ≡ r
+back c r o = to_z-of_z w64 r (room_fits c r o)
 
 module _ (x y : Summary) (p : examined_of x ≡ Ok y) where
   ok_size : size y.total ≤ max_bits
   ok_size = let h = looked x p in rw (sym h.1) (fits_size x h.0)
 
-  pub total_back : to_z w64 (of_z w64 y.total) ≡ y.total
+  total_back : to_z w64 (of_z w64 y.total) ≡ y.total
   total_back = to_z-of_z w64 y.total (omega (zsum, ok_size))
 
   module _ (r : ℤ) (o : Room 0 r) where
-    pub total_room : size r + size y.total < i64_bound
-    total_room = omega (arith, ok_size)
+    pub total_room : size (to_z w64 (of_z w64 r)) + size y.total < i64_bound
+    total_room = rw (back 0 r o) (omega (arith, ok_size))
 
-    pub past_back : (w : Way) → to_z w64 (of_z w64 (passed w r y.total)) ≡ passed w r y.total
-    past_back w = let h = looked x p in rw (sym h.1) (to_z-of_z w64 (passed w r x.total) (passed_fits w r x h.0 o))
+    pub past_room : size (to_z w64 (of_z w64 r)) + size (to_z w64 (of_z w64 y.total)) < i64_bound
+    past_room = rw total_back total_room
+
+    past_back : (w : Way) → to_z w64 (of_z w64 (passed w r y.total)) ≡ passed w r y.total
+    past_back w = let h = looked x p in rw (sym h.1) (to_z-of_z w64 (passed w r x.total) (omega (zsum, passed_size w r x h.0)))
 
 -- ---- node k of m nodes, asked for the remainder r
 module _ (w : Way) (m : ℕ) (s : List ℤ) (k : ℕ) (r : ℤ) where
@@ -131,14 +107,18 @@ module _ (w : Way) (m : ℕ) (s : List ℤ) (k : ℕ) (r : ℤ) where
     unfolding asked_of
     asked_misfit p = let h = looked (node_at s k) p in rw (lt-leb m k l, h.0, sym h.1)
 
-    module _ {x : Summary} (p : examined_of (node_at s k) ≡ Ok x) where
-      pub asked_here : holds_on w x r ≡ true → Ok Here ≡ asked_of w m s k r
+    -- the machine reads the remainders and the total back from 64 bits
+    module _ {x : Summary} (p : examined_of (node_at s k) ≡ Ok x) (o : Room 0 r) where
+      pub asked_here : true ≡ holds_on w x (to_z w64 (of_z w64 r)) → Ok Here ≡ asked_of w m s k r
       unfolding asked_of
-      asked_here y = let h = looked (node_at s k) p in rw (lt-leb m k l, h.0, h.1, y)
+      asked_here y = let h = looked (node_at s k) p in rw (lt-leb m k l, h.0, h.1, sym (rw (back 0 r o) at y))
 
-      pub asked_past : holds_on w x r ≡ false → Ok (Past (passed w r x.total)) ≡ asked_of w m s k r
+      pub asked_past : {q : ℤ} → false ≡ holds_on w x (to_z w64 (of_z w64 r)) → q ≡ passed w (to_z w64 (of_z w64 r)) (to_z w64 (of_z w64 x.total))
+          → Ok (Past (to_z w64 (of_z w64 q))) ≡ asked_of w m s k r
       unfolding asked_of
-      asked_past y = let h = looked (node_at s k) p in rw (lt-leb m k l, h.0, h.1, y)
+      asked_past y e =
+          let h = looked (node_at s k) p in
+          rw (e, back 0 r o, total_back (node_at s k) x p, past_back (node_at s k) x p r o w, lt-leb m k l, h.0, h.1, sym (rw (back 0 r o) at y))
 
   pub answer : {a b : Result Asked Refusal} → SFits w64 r → a ≡ asked_of w m s k (to_z w64 (of_z w64 r)) → a ≡ b → asked_of w m s k r ≡ b
   answer {a} {b} f p e = sym (rw (to_z-of_z w64 r f) at p) ∙ e

@@ -1,12 +1,11 @@
 -- The results of examining a node and of asking it for a remainder (SCOPE, How a search walks: Scan, examine, qualify; Recursion).
 -- Assumes nothing.
-use Rattle.std.specs.Prelude.{cond, List, ℕ, ◌+◌, ◌*◌, ◌≤◌, ◌<◌, leb, ℤ, Result, Ok, Err}
+use Rattle.std.specs.Prelude.{cond, List, ℕ, ◌+◌, ◌*◌, ◌<◌, leb, ℤ, Result, Ok, Err}
 use Rattle.ints.specs.Limits.{i64_bound}
 use Rattle.row.specs.Limits.{max_bits}
 use Rattle.ints.specs.Sides.{size}
 use Rattle.row.specs.Way.{Way}
 use Rattle.bits_stretch.specs.declared.summary.Summary.{Summary}
-use Rattle.mmt_layout.specs.Layout.{width}
 use Rattle.mmt_node.specs.Nodes.{node_at}
 use Rattle.walk_spec.specs.Walk.{fits, examine}
 use Rattle.row.specs.declared.refusal.Refusal.{Refusal}
@@ -25,8 +24,3 @@ asked_of w m s k r = cond (leb m k) (Ok Absent) (examine w (node_at s k) r (Err 
 -- The remainder r has room in an i64 for c more totals, each of size at most 2^32, and for the bits of a block.
 abbrev pub Room : ℕ → ℤ → Type 0
 Room c r = size r + max_bits * (c + 2) < i64_bound
-
--- A node can be asked for the remainder r: a buffer of t entries has room for m nodes, and r has room for the total of the node.
-pub record Askable (m t : ℕ) (r : ℤ) : Type 0 where
-  pub nodes : width * m ≤ t
-  pub room : Room 0 r

@@ -5,5 +5,7 @@
 #![tactic(auto)]
 
 mod node;
+mod nodes;
 
-pub use node::{Asked, ask, examine};
+pub use node::{Asked, examine};
+pub use nodes::Nodes;

@@ -3,8 +3,9 @@ ghost use Rattle.std.specs.Prelude.{◌≡◌, ◌+◌, ◌*◌, ◌≤◌, leng
 ghost use Rattle.mmt_layout.specs.Layout.{width};
 ghost use Rattle.mmt_node.specs.Nodes.{node_at};
 ghost use Rattle.walk_spec.specs.Walk.{in_range};
-ghost use Rattle.walk_examine.specs.Asked.{examined_of, asked_of, Askable};
+ghost use Rattle.walk_examine.specs.Asked.{examined_of, asked_of, Room};
 
+use crate::nodes::Nodes;
 use bits_stretch::{Direction, Summary};
 use row::Refusal;
 
@@ -23,6 +24,7 @@ const LOWEST: i64 = -4294967296;
 const HIGHEST: i64 = 4294967296;
 
 // Tests whether an entry is in range: at least -2^32 and at most 2^32.
+#[tactic(auto, unfolding(walk_spec::specs::Walk::in_range))]
 fn near_zero(x: i64) -> bool
     ensures { result ≡ in_range x }
 {
@@ -31,6 +33,7 @@ fn near_zero(x: i64) -> bool
 
 // Reads the three entries of node k and tests each of them for range, whether it is used or not. One out of range is refusal 8.
 // No other code of a walk reads the node buffer.
+#[tactic(auto, unfolding(crate::specs::Asked::examined_of, walk_spec::specs::Walk::fits))]
 pub fn examine(nodes: &[i64], k: usize) -> Result<Summary, Refusal>
     requires { width * (k + 1) ≤ length nodes.now }
     ensures { result ≡ examined_of (node_at nodes.now k) }
@@ -42,17 +45,20 @@ pub fn examine(nodes: &[i64], k: usize) -> Result<Summary, Refusal>
     Err(Refusal::NodesMisfit)
 }
 
-// Asks node k for the remainder r. There are `all` nodes.
-pub fn ask<D: Direction>(nodes: &[i64], all: usize, k: usize, r: i64) -> Result<Asked, Refusal>
-    requires { Askable all (length nodes.now) r }
-    ensures { result ≡ asked_of D.way all nodes.now k r }
-{
-    if all <= k {
-        return Ok(Asked::Absent);
+impl<'a> Nodes<'a> {
+    // Asks node k for the remainder r.
+    #[tactic(auto, using(crate::proofs::Asks::asked_absent, crate::proofs::Asks::asked_misfit, crate::proofs::Asks::asked_here, crate::proofs::Asks::asked_past, crate::proofs::Asks::total_room, crate::proofs::Asks::past_room))]
+    pub fn ask<D: Direction>(&self, k: usize, r: i64) -> Result<Asked, Refusal>
+        requires { Room 0 r }
+        ensures { result ≡ asked_of D.way self.now.all self.now.buffer.now k r }
+    {
+        if self.all <= k {
+            return Ok(Asked::Absent);
+        }
+        let x = examine(self.buffer, k)?;
+        if D::holds(x, r) {
+            return Ok(Asked::Here);
+        }
+        Ok(Asked::Past(D::passed(r, x.total)))
     }
-    let x = examine(nodes, k)?;
-    if D::holds(x, r) {
-        return Ok(Asked::Here);
-    }
-    Ok(Asked::Past(D::passed(r, x.total)))
 }

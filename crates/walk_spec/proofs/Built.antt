@@ -9,6 +9,7 @@ use mathlib.Core.Bool.{Bool, true, false}
 use mathlib.Core.List.{List}
 use Prim.Native.Nat.{ℕ, zero, suc, ◌+◌, ◌-◌, ◌*◌, ◌/◌, ◌≤◌, ◌<◌}
 use native.Mathlib.Omega.{arith}
+use native.Mathlib.Nat.{lt_of_not-le}
 use native.Mathlib.Numerals.{add-one}
 use native.Mathlib.Decide.{dec_lt, dec_le}
 use lib.IntN.{ℤ, pos}
@@ -29,7 +30,7 @@ use Rattle.walk_spec.specs.Walk.{fits, last_sibling, sibling_beyond, climb, near
 use Rattle.walk_spec.proofs.Ways.{kin, near_place, far_place, side_place}
 use Rattle.walk_spec.proofs.Steps.{climb_root, climb_up, climb_alone, climb_turn, climb_pass, descend_leaf, descend_near, descend_far}
 use Rattle.walk_spec.proofs.Told.{Told, here, past, told_hit, summary_fit, numbers_told}
-use Rattle.walk_spec.proofs.Stretches.{over, over_none, bits_of, rest_of, children, rest_last, rest_beside, rest_root, leaf_bits}
+use Rattle.walk_spec.proofs.Stretches.{over, over_none, bits_of, rest_of, child_bounds, children, rest_last, rest_beside, rest_root, leaf_bits}
 
 -- the position at which a walk enters the bits of node k: forward their start, backward their end
 abbrev into : Way → ℕ → ℕ → ℕ → ℕ → ℕ
@@ -39,16 +40,14 @@ into backward n B h k = start_of n B h (suc k)
 module _ (ws : List ℕ) (n : ℕ) (s : List ℤ) (B : ℕ) (pB : 0 < B) (some : 0 < n) (short : n ≤ max_bits) (built : AsBuilt ws n s B) where
   -- ---- which nodes exist, and where their bits begin
   present : (h k : ℕ) → Place (top n B) h k → start_of n B h k < n → k < count n B
-  present h k p l = elim (dec_lt k (count n B)) [ yes y ↦ y | no z ↦ absurd (omega (arith, absent n B pB some h k p (omega arith))) ]
+  present h k p l = lt_of_not-le (λ z. omega (arith, absent n B pB some h k p z))
 
   -- a node whose bits contain a hit begins before n
   begins : (w : Way) (h k j : ℕ) (r : ℤ) → bits_of w ws n B h k r ≡ Break j → start_of n B h k < n
-  begins w h k j r e = elim (dec_lt (start_of n B h k) n) [
-    | yes y ↦ y
-    | no z ↦ (let o = over_none (bit_at ws) w (start_of n B h k) (start_of n B h (suc k)) r (omega (arith, start_le n B pB h (suc k))) in
-        let x : ◌≡◌ {A = ℕ} 0 1 = cc in
-        absurd (omega arith))
-  ]
+  begins w h k j r e =
+      lt_of_not-le (λ z. let o = over_none (bit_at ws) w (start_of n B h k) (start_of n B h (suc k)) r (omega (arith, start_le n B pB h (suc k))) in
+      let x : ◌≡◌ {A = ℕ} 0 1 = cc in
+      omega arith)
 
   start_into : (w : Way) (h k : ℕ) → start_of n B h k ≤ into w n B h k
   start_into forward h k = omega arith
@@ -69,15 +68,6 @@ module _ (ws : List ℕ) (n : ℕ) (s : List ℤ) (B : ℕ) (pB : 0 < B) (some :
   alone backward h k r p l z o =
       let e : suc (k - 1) ≡ k = omega arith in
       absurd (omega (arith, absent n B pB some h (k - 1) p o, rw e at (start_mono n B pB h (k - 1))))
-
-  parent_start : (h k : ℕ) → (k ≡ 0 → ⊥) → start_of n B (suc h) ((k - 1) / 2) ≤ start_of n B h k
-  parent_start h k z =
-      let m = 2 * ((k - 1) / 2) + 1 in
-      rw (← start_child n B pB h ((k - 1) / 2))
-      (elim (dec_lt m k) [
-        | yes l ↦ (let e : suc m ≡ k = omega arith in rw e at (start_mono n B pB h m))
-        | no l ↦ (let e : m ≡ k = omega arith in rw e (omega arith))
-      ])
 
   -- ---- what the entries of node k say about its bits
   module _ (h k : ℕ) (p : Place (top n B) h k) (i : k < count n B) where
@@ -137,7 +127,7 @@ module _ (ws : List ℕ) (n : ℕ) (s : List ℤ) (B : ℕ) (pB : 0 < B) (some :
     Finds f = (h k : ℕ) (r : ℤ) (c : ℕ) → k ≤ f → Place (top n B) h k → start_of n B h k < n → (r ≡ pos 0 → ⊥) → Found h k r c
 
     at_root : (h k : ℕ) (r : ℤ) (c : ℕ) → k ≡ 0 → Place (top n B) h k → Found h k r c
-    at_root h k r c e p = rw (← climb_root w (count n B) s h k r c e, rest_root ws n B pB w h k r e p)
+    at_root h k r c e p = rw (← climb_root w (count n B) s k h k r c e, rest_root ws n B pB w h k r e p)
 
     to_parent : (f : ℕ) → Finds f → (h k : ℕ) (r : ℤ) (c : ℕ) → k ≤ suc f → Place (top n B) h k → start_of n B h k < n → (r ≡ pos 0 → ⊥)
         → (k ≡ 0 → ⊥) → Found h k r c
@@ -147,7 +137,7 @@ module _ (ws : List ℕ) (n : ℕ) (s : List ℤ) (B : ℕ) (pB : 0 < B) (some :
         pp = place_up (top n B) h k (omega arith) p
 
         onwards : (q : ℤ) (d : ℕ) → (q ≡ pos 0 → ⊥) → Found (suc h) ((k - 1) / 2) q d
-        onwards q d = rec (suc h) ((k - 1) / 2) q d (omega arith) pp (omega (arith, parent_start h k o))
+        onwards q d = rec (suc h) ((k - 1) / 2) q d (omega arith) pp (omega (arith, (child_bounds n B pB h k (omega arith)).0))
 
         beside : last_sibling w k ≡ false → Place (top n B) h (sibling_beyond w k) → sibling_beyond w k < count n B → Found h k r c
         beside e ps i =

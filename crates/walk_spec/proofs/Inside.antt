@@ -7,16 +7,17 @@
 --   walk_inside: the theorem for both directions
 --   walk_after, walk_before: the theorem forward and backward
 -- Assumes nothing.
-use mathlib.Core.Path.{◌≡◌, refl, ap, ◌∙◌}
+use mathlib.Core.Path.{◌≡◌, refl}
 use mathlib.Core.Bool.{false}
 use mathlib.Core.List.{List}
 use Prim.Native.Nat.{ℕ, zero, suc, ◌+◌, ◌-◌, ◌*◌, ◌/◌, ◌≤◌, ◌<◌, min}
 use native.Mathlib.Omega.{arith}
-use native.Mathlib.Decide.{dec_lt}
+use native.Mathlib.Nat.{div-mul-le_self, lt-div-mul-add}
 use native.Mathlib.Numerals.{add-one}
 use borrow.Author.Tests.{eqb-false, leb-false}
 use lib.Dec.{leb, eqb}
 use lib.IntN.{ℤ, ◌+ℤ◌}
+use Rattle.std.proofs.lemmas.Bool.{cond_both}
 use Rattle.row.specs.Answer.{Answer, at, nothing, refused}
 use Rattle.row.specs.Bits.{bit_at}
 use Rattle.row.specs.Excess.{excess}
@@ -29,12 +30,12 @@ use Rattle.mmt_layout.specs.Layout.{inner, count}
 use Rattle.mmt_node.specs.Nodes.{node_at}
 use Rattle.mmt_layout.proofs.Powers.{leaves_in}
 use Rattle.mmt_layout.proofs.Places.{Place, place_up}
-use Rattle.mmt_node.proofs.Covered.{start_of, top, start_child, start_le, start_mono}
+use Rattle.mmt_node.proofs.Covered.{start_of, top, start_le, start_mono}
 use Rattle.bits_stretch.specs.Summary.{holds_on}
 use Rattle.walk_spec.specs.Walk.{fits, Climb, last_sibling, sibling_beyond, climb, Descent, nearer, farther, descend, far, ends_at_once, start_block, start_scan, Walk, in_leaf, land, after_climb, in_start, walk}
-use Rattle.walk_spec.proofs.Ways.{near_place, far_place, side_place, chosen}
-use Rattle.walk_spec.proofs.Stretches.{over, bits_of, block_place, block_start, block_end, leaf_bits}
-use Rattle.walk_spec.proofs.Right.{Inside, inside, low, high, start_in}
+use Rattle.walk_spec.proofs.Ways.{near_place, far_place, side_place}
+use Rattle.walk_spec.proofs.Stretches.{over, bits_of, left_bounds, right_bounds, child_bounds, block_place, block_start, block_end, leaf_bits}
+use Rattle.walk_spec.proofs.Right.{Inside, inside, start_in}
 
 -- a scan hits a position among its bits
 hit_in : (w : Way) (f : ℕ → ℕ) (c a : ℕ) (r : ℤ) (j : ℕ) → scan w f c a r ≡ Break j → (a ≤ j) × (j < a + c)
@@ -64,44 +65,18 @@ module _ (n B : ℕ) where
   Beyond backward h k j = j < start_of n B h k
 
   module _ (pB : 0 < B) where
-    start_of_lem : (h k p : ℕ) → k ≡ 2 * p + 1 → start_of n B h k ≡ start_of n B (suc h) p
-    start_of_lem h k p e = ap (start_of n B h) e ∙ start_child n B pB h p
-
-    -- the bits of a child k are among those of its parent p
-    abbrev Among : ℕ → ℕ → ℕ → Type 0
-    Among h k p = (start_of n B (suc h) p ≤ start_of n B h k) × (start_of n B h (suc k) ≤ start_of n B (suc h) (suc p))
-
-    left_bounds : (h k p : ℕ) → k ≡ 2 * p + 1 → Among h k p
-    left_bounds h k p e = (
-      omega (arith, start_of_lem h k p e),
-      omega (arith, start_mono n B pB h (suc k), start_of_lem h (suc (suc k)) (suc p) (omega arith)),
-    )
-
-    right_bounds : (h k p : ℕ) → k ≡ 2 * p + 2 → Among h k p
-    right_bounds h k p e =
-        let d : suc (2 * p + 1) ≡ k = omega arith in (
-          omega (arith, start_of_lem h (2 * p + 1) p refl, rw d at (start_mono n B pB h (2 * p + 1))),
-          omega (arith, start_of_lem h (suc k) (suc p) (omega arith)),
-        )
-
-    child_bounds : (h k : ℕ) → 0 < k → Among h k ((k - 1) / 2)
-    child_bounds h k z = elim (dec_lt (2 * ((k - 1) / 2) + 1) k) [
-      | yes l ↦ right_bounds h k ((k - 1) / 2) (omega arith)
-      | no l ↦ left_bounds h k ((k - 1) / 2) (omega arith)
-    ]
-
     near_in : (w : Way) (h k j : ℕ) → In h (nearer w k) j → In (suc h) k j
-    near_in forward h k j i = let b = left_bounds h (2 * k + 1) k refl in (omega arith, omega arith)
-    near_in backward h k j i = let b = right_bounds h (2 * k + 2) k refl in (omega arith, omega arith)
+    near_in forward h k j i = let b = left_bounds n B pB h (2 * k + 1) k refl in (omega arith, omega arith)
+    near_in backward h k j i = let b = right_bounds n B pB h (2 * k + 2) k refl in (omega arith, omega arith)
 
     far_in : (w : Way) (h k j : ℕ) → In h (farther w k) j → In (suc h) k j
-    far_in forward h k j i = let b = right_bounds h (2 * k + 2) k refl in (omega arith, omega arith)
-    far_in backward h k j i = let b = left_bounds h (2 * k + 1) k refl in (omega arith, omega arith)
+    far_in forward h k j i = let b = right_bounds n B pB h (2 * k + 2) k refl in (omega arith, omega arith)
+    far_in backward h k j i = let b = left_bounds n B pB h (2 * k + 1) k refl in (omega arith, omega arith)
 
     -- a position beyond the parent of node k is beyond node k
     parent_beyond : (w : Way) (h k j : ℕ) → 0 < k → Beyond w (suc h) ((k - 1) / 2) j → Beyond w h k j
-    parent_beyond forward h k j z b = let c = child_bounds h k z in (omega arith, b.1)
-    parent_beyond backward h k j z b = let c = child_bounds h k z in omega arith
+    parent_beyond forward h k j z b = let c = child_bounds n B pB h k z in (omega arith, b.1)
+    parent_beyond backward h k j z b = let c = child_bounds n B pB h k z in omega arith
 
     -- a position among the bits of the sibling beyond node k is beyond node k
     sibling_beyond_lem : (w : Way) (h k j : ℕ) → 0 < k → In h (sibling_beyond w k) j → Beyond w h k j
@@ -141,13 +116,13 @@ module _ (w : Way) (ws : List ℕ) (n : ℕ) (s : List ℤ) (B : ℕ) (pB : 0 < 
       let q = passed w r x.total in
       let pi = near_place (top n B) w h k p in
       let pj = far_place (top n B) w h k p in
-      chosen P (leb m i) (λ a. tt)
-      (λ a. chosen P (fits x)
-      (λ g. chosen P (holds_on w x r)
+      cond_both (leb m i) _ _ P (λ a. tt)
+      (λ a. cond_both (fits x) _ _ P
+      (λ g. cond_both (holds_on w x r) _ _ P
       (λ v. only_more (near_in n B pB w h k) (down h i r (suc c)) (down_in h i r (suc c) (leb-false m i a) pi))
-      (λ v. chosen P (leb m j) (λ e. tt)
-      (λ e. chosen P (fits y)
-      (λ d. chosen P (holds_on w y q)
+      (λ v. cond_both (leb m j) _ _ P (λ e. tt)
+      (λ e. cond_both (fits y) _ _ P
+      (λ d. cond_both (holds_on w y q) _ _ P
       (λ v. only_more (far_in n B pB w h k) (down h j q (suc (suc c))) (down_in h j q (suc (suc c)) (leb-false m j e) pj))
       (λ v. tt))
       (λ d. tt))))
@@ -161,14 +136,14 @@ module _ (w : Way) (ws : List ℕ) (n : ℕ) (s : List ℤ) (B : ℕ) (pB : 0 < 
       let i = sibling_beyond w k in
       let j = (k - 1) / 2 in
       let x = node_at s i in
-      chosen P (eqb k 0) (λ z. tt)
+      cond_both (eqb k 0) _ _ P (λ z. tt)
       (λ z. let o = eqb-false k 0 z in let u = place_up (top n B) h k (omega arith) p in
       let on : (q : ℤ) (d : ℕ) → Only (Beyond n B w h k) (up f (suc h) j q d) =
       (λ q d. only_more (λ y. parent_beyond n B pB w h k y (omega arith)) (up f (suc h) j q d) (up_in f (suc h) j q d u)) in
-      chosen P (last_sibling w k) (λ e. on r c)
-      (λ e. chosen P (leb m i) (λ a. tt)
-      (λ a. chosen P (fits x)
-      (λ g. chosen P (holds_on w x r)
+      cond_both (last_sibling w k) _ _ P (λ e. on r c)
+      (λ e. cond_both (leb m i) _ _ P (λ a. tt)
+      (λ a. cond_both (fits x) _ _ P
+      (λ g. cond_both (holds_on w x r) _ _ P
       (λ y. only_more (λ y. sibling_beyond_lem n B pB w h k y (omega arith)) (down h i r (suc c))
       (down_in h i r (suc c) (leb-false m i a) (side_place (top n B) w h k o e p)))
       (λ y. on (passed w r x.total) (suc c)))
@@ -187,17 +162,17 @@ module _ (ws : List ℕ) (n : ℕ) (s : List ℤ) (B : ℕ) (pB : 0 < B) (i : �
       (omega (arith, h.0), omega (arith, h.1))
   start_hit backward j o e =
       let h = hit_in backward (bit_at ws) (i - (i - 1) / B * B) ((i - 1) / B * B) r j e in
-      let l = low n B pB (i - 1) in
+      let l = div-mul-le_self (i - 1) B in
       (omega (arith, h.1), omega (arith, h.1))
 
   -- a hit beyond the start block
   start_past : (w : Way) (j : ℕ) → Inside w n i → Beyond n B w 0 (inner n B + start_block w B i) j → Past w j
   start_past forward j o b =
       let e = block_end ws n B pB (omega arith) ((i + 1) / B) (start_in n B pB forward i o) in
-      (omega (arith, e, b.0, b.1, high n B pB (i + 1)), b.1)
+      (omega (arith, e, b.0, b.1, lt-div-mul-add {a = i + 1} pB), b.1)
   start_past backward j o b =
       let e = block_start ws n B pB (omega arith) ((i - 1) / B) (start_in n B pB backward i o) in
-      let l = low n B pB (i - 1) in
+      let l = div-mul-le_self (i - 1) B in
       (omega arith, omega arith)
 
   module _ (w : Way) where
@@ -216,7 +191,7 @@ module _ (ws : List ℕ) (n : ℕ) (s : List ℤ) (B : ℕ) (pB : 0 < B) (i : �
     unfolding walk
     walk_inside =
         let P : Walk → Type 0 = (λ d. Only (Past w) d.answer) in
-        chosen P (ends_at_once w n i) (λ e. tt) (λ e. chosen P (far n r) (λ f. tt) (λ f. from_start e (start_scan w ws n B i r) refl))
+        cond_both (ends_at_once w n i) _ _ P (λ e. tt) (λ e. cond_both (far n r) _ _ P (λ f. tt) (λ f. from_start e (start_scan w ws n B i r) refl))
 
   pub walk_after : (j : ℕ) → (walk forward ws n s B i r).answer ≡ at j → (i < j) × (j < n)
   walk_after j e = rw e at (walk_inside forward)

@@ -4,7 +4,7 @@
 --   Inside, inside: the positions of a search that does not end at once
 --   fwd_scan, bwd_scan, search_scan: a search answers the position that the scan of these bits hits
 --   search_ends, search_far: the search is nothing if the walk ends at once, and if |r| > n
---   low, high: a position is in its block: not before the first bit, and before the end
+--   block_of: a block that begins in the row is a block of the row
 --   start_in: the start block is a block of the row
 --   start_leaves: the scan of the start block never leaves the remainder 0
 --   begin: the bits that the search may read are those of the start block and those beyond it
@@ -17,12 +17,13 @@ use mathlib.Core.Bool.{Bool, true, false, ◌||◌, true≢false}
 use mathlib.Core.List.{List}
 use Prim.Native.Nat.{ℕ, suc, ◌+◌, ◌-◌, ◌*◌, ◌/◌, ◌≤◌, ◌<◌, min}
 use native.Mathlib.Omega.{arith}
-use native.Mathlib.Nat.{div-add-mod', mod-lt}
+use native.Mathlib.Nat.{div-mul-le_self, lt-div-mul-add, lt_of_not-le}
 use native.Mathlib.Numerals.{add-one}
 use native.Mathlib.Decide.{dec_lt}
 use borrow.Author.Tests.{ltb-true, leb-true, leb-false, eqb-true, eqb-false}
 use lib.Dec.{leb, eqb}
 use lib.IntN.{ℤ, pos, ◌+ℤ◌}
+use Rattle.std.proofs.lemmas.Bool.{or_parts}
 use Rattle.row.specs.Limits.{max_bits}
 use Rattle.ints.specs.Sides.{size}
 use Rattle.row.specs.Answer.{Answer, nothing, refused}
@@ -37,11 +38,10 @@ use Rattle.bits_stretch.specs.Scan.{passed, scan}
 use Rattle.bits_stretch.proofs.Parts.{scan_onward}
 use Rattle.bits_stretch.proofs.Meets.{hit_answer, scan_nearest, scan_leaves}
 use Rattle.bits_stretch.proofs.Covers.{skip_far}
-use Rattle.mmt_layout.specs.declared.Layout.{Layout}
 use Rattle.mmt_layout.specs.Layout.{leaves, inner, count}
 use Rattle.mmt_node.specs.Nodes.{node_at, AsBuilt}
 use Rattle.mmt_layout.proofs.Powers.{leaves_in, leaves_out, inner_top, inner_room}
-use Rattle.mmt_layout.proofs.Gates.{layout_none}
+use Rattle.mmt_layout.proofs.Gates.{counted}
 use Rattle.mmt_layout.proofs.Places.{count_is, place_of}
 use Rattle.mmt_node.proofs.Covered.{top}
 use Rattle.bits_stretch.specs.Summary.{holds_on}
@@ -60,11 +60,6 @@ abbrev pub remaining : Way → List ℕ → ℕ → ℕ → ℤ → Scanned
 remaining forward ws n i = over forward (bit_at ws) (suc i) n
 remaining backward ws n i = over backward (bit_at ws) 0 i
 
--- if `a || b` is false, both a and b are false
-neither : (a b : Bool) → (a || b) ≡ false → (a ≡ false) × (b ≡ false)
-neither true b e = absurd (true≢false e)
-neither false b e = (refl, e)
-
 -- the positions i of a search that does not end at once
 abbrev pub Inside : Way → ℕ → ℕ → Type 0
 Inside forward n i = i + 1 < n
@@ -72,7 +67,7 @@ Inside backward n i = (0 < i) × (i < n)
 
 pub inside : (w : Way) (n i : ℕ) → ends_at_once w n i ≡ false → Inside w n i
 inside forward n i e = leb-false n (i + 1) e
-inside backward n i e = let h = neither (eqb i 0) (leb n i) e in let z = eqb-false i 0 h.0 in (omega arith, leb-false n i h.1)
+inside backward n i e = let h = or_parts (eqb i 0) (leb n i) e in let z = eqb-false i 0 h.0 in (omega arith, leb-false n i h.1)
 
 module _ (ws : List ℕ) (n i : ℕ) (r : ℤ) where
   fwd_scan : fwd ws n i r ≡ hit_answer (remaining forward ws n i r)
@@ -118,37 +113,31 @@ module _ (ws : List ℕ) (n i : ℕ) (r : ℤ) where
 
 -- ---- the start block
 module _ (n B : ℕ) (pB : 0 < B) where
-  pub low : (x : ℕ) → x / B * B ≤ x
-  low x = omega (arith, div-add-mod' x B)
-
-  pub high : (x : ℕ) → x < (x / B + 1) * B
-  high x = omega (arith, div-add-mod' x B, mod-lt x {m = B} pB)
-
-  block_of : (x : ℕ) → x < n → x / B < leaves n B
-  block_of x l = elim (dec_lt (x / B) (leaves n B)) [ yes y ↦ y | no z ↦ absurd (omega (arith, leaves_out n B pB (x / B) (omega arith), low x)) ]
+  pub block_of : (b : ℕ) → b * B < n → b < leaves n B
+  block_of b l = lt_of_not-le (λ h. omega (arith, leaves_out n B pB b h))
 
   pub start_in : (w : Way) (i : ℕ) → Inside w n i → start_block w B i < leaves n B
-  start_in forward i h = block_of (i + 1) h
-  start_in backward i h = block_of (i - 1) (omega arith)
+  start_in forward i h = block_of ((i + 1) / B) (omega (arith, div-mul-le_self (i + 1) B))
+  start_in backward i h = block_of ((i - 1) / B) (omega (arith, div-mul-le_self (i - 1) B))
 
   -- the scan of the start block never leaves the remainder 0, whatever the bits are
   pub start_leaves : (w : Way) (ws : List ℕ) (i : ℕ) (r q : ℤ) → ends_at_once w n i ≡ false → start_scan w ws n B i r ≡ Continue q → q ≡ pos 0 → ⊥
   start_leaves forward ws i r q h =
       let l = inside forward n i h in
-      scan_leaves (bit_at ws) forward (min n (((i + 1) / B + 1) * B) - (i + 1)) (i + 1) r q (λ e z. omega (arith, high (i + 1)))
+      scan_leaves (bit_at ws) forward (min n (((i + 1) / B + 1) * B) - (i + 1)) (i + 1) r q (λ e z. omega (arith, lt-div-mul-add {a = i + 1} pB))
   start_leaves backward ws i r q h =
       let l = inside backward n i h in
-      scan_leaves (bit_at ws) backward (i - (i - 1) / B * B) ((i - 1) / B * B) r q (λ e z. omega (arith, low (i - 1)))
+      scan_leaves (bit_at ws) backward (i - (i - 1) / B * B) ((i - 1) / B * B) r q (λ e z. omega (arith, div-mul-le_self (i - 1) B))
 
   begin : (w : Way) (ws : List ℕ) (i : ℕ) (r : ℤ) → Inside w n i
       → remaining w ws n i r ≡ scan_onward (start_scan w ws n B i r) (rest_of w ws n B 0 (inner n B + start_block w B i))
   unfolding over
   begin forward ws i r h =
       rw (block_end ws n B pB (omega arith) ((i + 1) / B) (start_in forward i h), ← add-one i)
-      (over_split (bit_at ws) forward (i + 1) (min n (((i + 1) / B + 1) * B)) n r (omega (arith, high (i + 1))) (omega arith))
+      (over_split (bit_at ws) forward (i + 1) (min n (((i + 1) / B + 1) * B)) n r (omega (arith, lt-div-mul-add {a = i + 1} pB)) (omega arith))
   begin backward ws i r h =
       rw (block_start ws n B pB (omega arith) ((i - 1) / B) (start_in backward i h))
-      (over_split (bit_at ws) backward 0 ((i - 1) / B * B) i r (omega arith) (omega (arith, low (i - 1))))
+      (over_split (bit_at ws) backward 0 ((i - 1) / B * B) i r (omega arith) (omega (arith, div-mul-le_self (i - 1) B)))
 
 -- ---- the whole walk
 search_answers : (w : Way) (ws : List ℕ) (n i : ℕ) (r : ℤ) (m : ℕ) → search w ws n i r ≡ refused m → ⊥
@@ -159,7 +148,7 @@ module _ (ws : List ℕ) (n : ℕ) (s : List ℤ) (B : ℕ) (pB : 0 < B) (short 
   -- a passed node never leaves the remainder 0, if the remainder before it is not 0
   pub node_leaves : (w : Way) (k : ℕ) (r : ℤ) → k < count n B → (r ≡ pos 0 → ⊥) → holds_on w (node_at s k) r ≡ false → passed w r (node_at s k).total ≡ pos 0 → ⊥
   node_leaves w k r i z h =
-      let some : 0 < n = elim (dec_lt 0 n) [ yes y ↦ y | no y ↦ absurd (omega (arith, ap (λ (l : Layout). l.leaves + l.inner) (layout_none n B (omega arith)))) ] in
+      let some : 0 < n = counted n B k i in
       let p = place_of (top n B) k (omega (arith, inner_top (leaves n B), inner_room (leaves n B), count_is n B some)) in
       elim (node_told ws n s B pB some short built p.0 k p.1 i w r z) [ here j b t ↦ absurd (true≢false (sym t ∙ h)) | past b t y ↦ y ]
 

@@ -4,13 +4,14 @@
 --   walk_seen: the bound for the whole walk; it holds for every h >= 1 with at most 2^h block leaves, so for the smallest such h too
 -- Assumes nothing.
 use mathlib.Core.Path.{◌≡◌}
-use mathlib.Core.Bool.{false}
+use mathlib.Core.Bool.{Bool, false, cond}
 use mathlib.Core.List.{List}
 use Prim.Native.Nat.{ℕ, zero, suc, ◌+◌, ◌-◌, ◌*◌, ◌/◌, ◌^◌, ◌≤◌, ◌<◌, min}
 use native.Mathlib.Omega.{arith}
 use borrow.Author.Tests.{eqb-false}
 use lib.Dec.{leb, eqb}
 use lib.IntN.{ℤ}
+use Rattle.std.proofs.lemmas.Bool.{cond_both}
 use Rattle.row.specs.Bits.{bit_at}
 use Rattle.row.specs.Way.{Way}
 use Rattle.bits_stretch.specs.Scan.{Scanned}
@@ -23,9 +24,12 @@ use Rattle.mmt_layout.proofs.Places.{Place, place_up}
 use Rattle.mmt_node.proofs.Covered.{top}
 use Rattle.bits_stretch.specs.Summary.{holds_on}
 use Rattle.walk_spec.specs.Walk.{fits, Climb, last_sibling, sibling_beyond, climb, Descent, nearer, farther, descend, far, ends_at_once, start_block, start_scan, Walk, in_leaf, land, after_climb, in_start, walk}
-use Rattle.walk_spec.proofs.Ways.{chosen, either}
 use Rattle.walk_spec.proofs.Stretches.{block_place}
 use Rattle.walk_spec.proofs.Right.{inside, start_in}
+
+-- a property holds for a choice if both alternatives have it
+either : {A : Type 0} (P : A → Type 0) (t : Bool) {x y : A} → P x → P y → P (cond t x y)
+either P t p q = cond_both t _ _ P (λ e. p) (λ e. q)
 
 module _ (w : Way) (ws : List ℕ) (n : ℕ) (s : List ℤ) (B : ℕ) where
   leaf_seen : (x : Scanned) (c : ℕ) → (in_leaf w ws n s B x c).seen ≤ c
@@ -55,7 +59,7 @@ module _ (w : Way) (ws : List ℕ) (n : ℕ) (s : List ℤ) (B : ℕ) where
   up_seen t (suc f) h k r c p =
       let P : Climb → Type 0 = (λ d. (after_climb w ws n s B d).seen ≤ c + (3 * t - (2 + h))) in
       let x = node_at s (sibling_beyond w k) in
-      chosen P (eqb k 0) (λ z. omega arith)
+      cond_both (eqb k 0) _ _ P (λ z. omega arith)
       (λ z. let o = eqb-false k 0 z in let u = place_up t h k (omega arith) p in
       either P (last_sibling w k) (omega (arith, u.sum, up_seen t f (suc h) ((k - 1) / 2) r c u))
       (either P (leb m (sibling_beyond w k)) (omega arith)
@@ -75,4 +79,4 @@ module _ (w : Way) (ws : List ℕ) (n : ℕ) (s : List ℤ) (B : ℕ) where
     unfolding walk
     walk_seen =
         let P : Walk → Type 0 = (λ d. d.seen ≤ 3 * h - 2) in
-        chosen P (ends_at_once w n i) (λ e. omega arith) (λ e. either P (far n r) (omega arith) (start_seen e (start_scan w ws n B i r)))
+        cond_both (ends_at_once w n i) _ _ P (λ e. omega arith) (λ e. either P (far n r) (omega arith) (start_seen e (start_scan w ws n B i r)))

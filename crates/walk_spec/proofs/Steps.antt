@@ -1,6 +1,6 @@
 -- Climb and descent by cases, one law per branch of their definitions. A climb from node k is allowed k steps.
---   enough: any number of allowed steps that is at least k gives the same climb
 --   climb_root: at the root, the climb leaves the tree
+--   enough: any number of allowed steps that is at least k gives the same climb
 --   climb_up: at a node without a sibling beyond it, the climb goes on at the parent
 --   climb_beside: at any other node the sibling beyond it decides
 --   climb_alone, climb_turn, climb_pass: this sibling does not exist, qualifies, or is passed
@@ -25,15 +25,15 @@ use Rattle.walk_spec.specs.Walk.{fits, examine, Climb, turn, out, misfit, last_s
 
 module _ (w : Way) (m : ℕ) (s : List ℤ) where
   -- ---- the climb
-  root : (f h k : ℕ) (r : ℤ) (c : ℕ) → k ≡ 0 → out c ≡ climb w m s f h k r c
+  pub climb_root : (f h k : ℕ) (r : ℤ) (c : ℕ) → k ≡ 0 → out c ≡ climb w m s f h k r c
   unfolding climb
-  root zero h k r c z = refl
-  root (suc f) h k r c z = rw (eq-eqb k 0 z, climb)
+  climb_root zero h k r c z = refl
+  climb_root (suc f) h k r c z = rw (eq-eqb k 0 z, climb)
 
   pub enough : (f g h k : ℕ) (r : ℤ) (c : ℕ) → k ≤ f → k ≤ g → climb w m s f h k r c ≡ climb w m s g h k r c
   unfolding climb
-  enough zero g h k r c p q = root g h k r c (omega arith)
-  enough (suc f) zero h k r c p q = sym (root (suc f) h k r c (omega arith))
+  enough zero g h k r c p q = climb_root g h k r c (omega arith)
+  enough (suc f) zero h k r c p q = sym (climb_root (suc f) h k r c (omega arith))
   enough (suc f) (suc g) h k r c p q =
       let j = (k - 1) / 2 in
       rw (enough f g (suc h) j r c (omega arith) (omega arith), enough f g (suc h) j _ (suc c) (omega arith) (omega arith))
@@ -57,9 +57,6 @@ module _ (w : Way) (m : ℕ) (s : List ℤ) where
       rw (add-one h, add-one c, enough p k (suc h) p r c (omega arith) (omega arith), enough p k (suc h) p _ (suc c) (omega arith) (omega arith))
 
   module _ (h k : ℕ) (r : ℤ) (c : ℕ) where
-    pub climb_root : k ≡ 0 → out c ≡ climb w m s k h k r c
-    climb_root z = root k h k r c z
-
     module _ (z : k ≡ 0 → ⊥) where
       pub climb_up : last_sibling w k ≡ true → climb w m s ((k - 1) / 2) (h + 1) ((k - 1) / 2) r c ≡ climb w m s k h k r c
       climb_up e = rw (← climb_step h k r c, ne_eqb k 0 z, e)
@@ -70,7 +67,7 @@ module _ (w : Way) (m : ℕ) (s : List ℤ) where
         climb_beside = rw (← climb_step h k r c, ne_eqb k 0 z, e)
 
         pub climb_alone : m ≤ sibling_beyond w k → out c ≡ climb w m s k h k r c
-        climb_alone l = rw (← climb_step h k r c, ne_eqb k 0 z, e, le-leb m (sibling_beyond w k) l)
+        climb_alone l = rw (le-leb m (sibling_beyond w k) l) at climb_beside
 
         module _ (l : sibling_beyond w k < m) where
           abbrev beside : Summary
@@ -78,11 +75,11 @@ module _ (w : Way) (m : ℕ) (s : List ℤ) where
 
           module _ (f : fits beside ≡ true) where
             pub climb_turn : holds_on w beside r ≡ true → turn (sibling_beyond w k) h r (c + 1) ≡ climb w m s k h k r c
-            climb_turn y = rw (← climb_step h k r c, ne_eqb k 0 z, e, lt-leb m (sibling_beyond w k) l, f, y)
+            climb_turn y = rw (lt-leb m (sibling_beyond w k) l, f, y) at climb_beside
 
             pub climb_pass : holds_on w beside r ≡ false
                 → climb w m s ((k - 1) / 2) (h + 1) ((k - 1) / 2) (passed w r beside.total) (c + 1) ≡ climb w m s k h k r c
-            climb_pass y = rw (← climb_step h k r c, ne_eqb k 0 z, e, lt-leb m (sibling_beyond w k) l, f, y)
+            climb_pass y = rw (lt-leb m (sibling_beyond w k) l, f, y) at climb_beside
 
   -- ---- the descent
   module _ (h k : ℕ) (r : ℤ) (c : ℕ) where

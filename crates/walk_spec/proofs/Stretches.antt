@@ -4,6 +4,8 @@
 --   over_none: the scan of no bits leaves the remainder unchanged
 --   over_split: the scan of a stretch consists of the scans of its two parts
 --   bits_of, rest_of: the scan of the bits of node k, and of the bits beyond it
+--   start_up: a left child begins where its parent does
+--   Among, left_bounds, right_bounds, child_bounds: the bits of a child are among those of its parent
 --   children: the bits of a node are those of its two children
 --   rest_last: beyond a node without a sibling beyond it are the bits beyond its parent
 --   rest_beside: beyond any other node are the bits of its sibling, then the bits beyond its parent
@@ -11,11 +13,12 @@
 --   block_place, block_start, block_end: the height of block leaf b, and the start and the end of its bits
 --   leaf_bits: the bits of a block leaf are those of its block
 -- Assumes nothing.
-use mathlib.Core.Path.{◌≡◌, ap, ◌∙◌}
+use mathlib.Core.Path.{◌≡◌, refl, ◌∙◌}
 use mathlib.Core.Bool.{true, false}
 use mathlib.Core.List.{List}
 use Prim.Native.Nat.{ℕ, suc, ◌+◌, ◌-◌, ◌*◌, ◌/◌, ◌%◌, ◌^◌, ◌≤◌, ◌<◌, min}
 use native.Mathlib.Omega.{arith}
+use native.Mathlib.Decide.{dec_lt}
 use native.Mathlib.Numerals.{add-one}
 use borrow.Author.Tests.{eqb-true, eqb-false}
 use lib.IntN.{ℤ}
@@ -68,16 +71,40 @@ abbrev pub rest_of : Way → List ℕ → ℕ → ℕ → ℕ → ℕ → ℤ �
 rest_of forward ws n B h k = over forward (bit_at ws) (start_of n B h (suc k)) n
 rest_of backward ws n B h k = over backward (bit_at ws) 0 (start_of n B h k)
 
-module _ (ws : List ℕ) (n B : ℕ) (pB : 0 < B) where
+module _ (n B : ℕ) (pB : 0 < B) where
   -- a left child begins where its parent does
-  start_up : (h k p : ℕ) → k ≡ 2 * p + 1 → start_of n B h k ≡ start_of n B (suc h) p
-  start_up h k p e = ap (start_of n B h) e ∙ start_child n B pB h p
+  pub start_up : (h k p : ℕ) → k ≡ 2 * p + 1 → start_of n B h k ≡ start_of n B (suc h) p
+  start_up h k p e = rw e (start_child n B pB h p)
 
+  -- the bits of a child k are among those of its parent p
+  abbrev pub Among : ℕ → ℕ → ℕ → Type 0
+  Among h k p = (start_of n B (suc h) p ≤ start_of n B h k) × (start_of n B h (suc k) ≤ start_of n B (suc h) (suc p))
+
+  pub left_bounds : (h k p : ℕ) → k ≡ 2 * p + 1 → Among h k p
+  left_bounds h k p e = (
+    omega (arith, start_up h k p e),
+    omega (arith, start_mono n B pB h (suc k), start_up h (suc (suc k)) (suc p) (omega arith)),
+  )
+
+  pub right_bounds : (h k p : ℕ) → k ≡ 2 * p + 2 → Among h k p
+  right_bounds h k p e =
+      let d : suc (2 * p + 1) ≡ k = omega arith in (
+        omega (arith, start_up h (2 * p + 1) p refl, rw d at (start_mono n B pB h (2 * p + 1))),
+        omega (arith, start_up h (suc k) (suc p) (omega arith)),
+      )
+
+  pub child_bounds : (h k : ℕ) → 0 < k → Among h k ((k - 1) / 2)
+  child_bounds h k z = elim (dec_lt (2 * ((k - 1) / 2) + 1) k) [
+    | yes l ↦ right_bounds h k ((k - 1) / 2) (omega arith)
+    | no l ↦ left_bounds h k ((k - 1) / 2) (omega arith)
+  ]
+
+module _ (ws : List ℕ) (n B : ℕ) (pB : 0 < B) where
   family : (w : Way) (h k : ℕ) (r : ℤ) → bits_of w ws n B (suc h) k r ≡ in_turn w (bits_of w ws n B h (2 * k + 1)) (bits_of w ws n B h (2 * k + 2)) r
   family w h k r =
       let e : suc (2 * k + 1) ≡ 2 * k + 2 = omega arith in
       let t = start_of n B h (suc (2 * k + 2)) in
-      rw (← start_child n B pB h k, ← start_up h (suc (2 * k + 2)) (suc k) (omega arith), e)
+      rw (← start_child n B pB h k, ← start_up n B pB h (suc (2 * k + 2)) (suc k) (omega arith), e)
       (over_split (bit_at ws) w (start_of n B h (2 * k + 1)) (start_of n B h (2 * k + 2)) t r (rw e at (start_mono n B pB h (2 * k + 1))) (start_mono n B pB h (2 * k + 2)))
 
   pub children : (w : Way) (h k : ℕ) (r : ℤ) → bits_of w ws n B (suc h) k r ≡ scan_onward (bits_of w ws n B h (nearer w k) r) (bits_of w ws n B h (farther w k))
@@ -90,18 +117,18 @@ module _ (ws : List ℕ) (n B : ℕ) (pB : 0 < B) where
     parent = (k - 1) / 2
 
     pub rest_last : (w : Way) → last_sibling w k ≡ true → rest_of w ws n B h k r ≡ rest_of w ws n B (suc h) parent r
-    rest_last forward e = let d = eqb-true (k % 2) 0 e in rw (start_up h (suc k) (suc parent) (omega arith))
-    rest_last backward e = let d = eqb-true (k % 2) 1 e in rw (start_up h k parent (omega arith))
+    rest_last forward e = let d = eqb-true (k % 2) 0 e in rw (start_up n B pB h (suc k) (suc parent) (omega arith))
+    rest_last backward e = let d = eqb-true (k % 2) 1 e in rw (start_up n B pB h k parent (omega arith))
 
     pub rest_beside : (w : Way) → last_sibling w k ≡ false → rest_of w ws n B h k r ≡ scan_onward (bits_of w ws n B h (sibling_beyond w k) r) (rest_of w ws n B (suc h) parent)
     rest_beside forward e =
         let d = eqb-false (k % 2) 0 e in
-        rw (add-one k, ← start_up h (suc (suc k)) (suc parent) (omega arith))
+        rw (add-one k, ← start_up n B pB h (suc (suc k)) (suc parent) (omega arith))
         (over_split (bit_at ws) forward (start_of n B h (suc k)) (start_of n B h (suc (suc k))) n r (start_mono n B pB h (suc k)) (start_le n B pB h (suc (suc k))))
     rest_beside backward e =
         let d = eqb-false (k % 2) 1 e in
         let o : suc (k - 1) ≡ k = omega arith in
-        rw (o, ← start_up h (k - 1) parent (omega arith))
+        rw (o, ← start_up n B pB h (k - 1) parent (omega arith))
         (over_split (bit_at ws) backward 0 (start_of n B h (k - 1)) (start_of n B h k) r (omega arith) (rw o at (start_mono n B pB h (k - 1))))
 
   -- ---- beyond the root

@@ -1,13 +1,12 @@
 -- What a summary says about the bits that it belongs to, for a walk with the remainder r.
 --   Told: either the scan of the bits hits a position and the summary qualifies, or the scan passes all bits and it does not qualify
 --   told_hit: if the scan hits a position, the summary qualifies
---   back_leaves: going backward, any three values that do not qualify leave a remainder other than 0
 --   summary_fit: the summary of up to 2^32 bits is in range
 --   numbers_told: the summary of any stretch, also of an empty one, satisfies `Told` if r is not 0
 -- Assumes nothing.
-use mathlib.Core.Path.{◌≡◌, refl, sym, ◌∙◌}
+use mathlib.Core.Path.{◌≡◌, refl}
 use mathlib.Core.Logic.{⊎_elim}
-use mathlib.Core.Bool.{Bool, true, false, true≢false}
+use mathlib.Core.Bool.{Bool, true, false}
 use Prim.Native.Nat.{ℕ, zero, suc, ◌≤◌}
 use native.Mathlib.Omega.{arith}
 use lib.IntN.{ℤ, pos, ◌+ℤ◌, neg_ℤ}
@@ -25,7 +24,7 @@ use Rattle.bits_stretch.specs.Summary.{none, summary_of, holds_for}
 use Rattle.bits_stretch.specs.Scan.{passed, scan}
 use Rattle.bits_stretch.proofs.Full.{summary_size}
 use Rattle.bits_stretch.proofs.Meets.{scan_none, scan_leaves}
-use Rattle.bits_stretch.proofs.Covers.{summary_total, holds_low, holds_top, back_zero, back_cases, skip_forward, skip_backward, hold_forward, hold_backward}
+use Rattle.bits_stretch.proofs.Covers.{summary_total, holds_low, holds_top, back_cases, skip_on, hold_forward, hold_backward}
 use Rattle.bits_stretch.specs.Summary.{holds_on}
 use Rattle.walk_spec.specs.Walk.{in_range, fits}
 
@@ -55,11 +54,7 @@ pub data Told (w : Way) (r : ℤ) (x : Summary) (y : Scanned) : Type 0 where
 
 pub told_hit : {w : Way} {r : ℤ} {x : Summary} {y : Scanned} (j : ℕ) → Told w r x y → y ≡ Break j → holds_on w x r ≡ true
 told_hit j (here i b t) e = t
-told_hit j (past b t z) e = let o : ◌≡◌ {A = ℕ} 0 1 = cc in absurd (omega arith)
-
--- going backward, any three values that do not qualify leave a remainder other than 0
-pub back_leaves : (x : Summary) (r : ℤ) → holds_on backward x r ≡ false → passed backward r x.total ≡ pos 0 → ⊥
-back_leaves x r h z = true≢false (sym (back_zero x (r +ℤ x.total) z) ∙ h)
+told_hit j (past b t z) e = cc
 
 module _ (f : ℕ → ℕ) (a : ℕ) where
   pub summary_fit : (c : ℕ) → c ≤ max_bits → fits (summary_of f a c) ≡ true
@@ -71,8 +66,7 @@ module _ (f : ℕ → ℕ) (a : ℕ) where
 
   pass : (w : Way) (c : ℕ) (r : ℤ) → holds_on w (summary_of f a c) r ≡ false → scan w f c a r ≡ Continue (passed w r (summary_of f a c).total)
   pass w zero r h = rw summary_total (scan_none f w 0 a r (λ k p q m. omega arith))
-  pass forward (suc c) r h = skip_forward f (suc c) a (omega arith) r h
-  pass backward (suc c) r h = skip_backward f (suc c) a (omega arith) r h
+  pass w (suc c) r h = skip_on f (suc c) a (omega arith) w r h
 
   hold : (w : Way) (c : ℕ) (r : ℤ) → (r ≡ pos 0 → ⊥) → holds_on w (summary_of f a c) r ≡ true → (j : ℕ) × (scan w f c a r ≡ Break j)
   unfolding summary_of

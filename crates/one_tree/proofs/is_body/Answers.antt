@@ -2,7 +2,6 @@
 use native.Mathlib.Omega.{arith}
 use lib.IntN.{pos}
 use mir.Syntax.{w64}
-use mir.Val.{SFits}
 use mir.ValLaws.{to_z-of_z}
 use Rattle.ints.proofs.Order.{bits_eq_z}
 use Rattle.one_tree.proofs.is_body.Goals as goal
@@ -10,6 +9,4 @@ use Rattle.one_tree.proofs.is_body.Goals as goal
 pub returns-then-x-gt0 : goal.returns-then-x-gt0
 returns-then-x-gt0 c =
     let x = c.args.x in
-    let f : SFits w64 x.least = omega arith in
-    let g : SFits w64 x.total = omega arith in
-    rw (rw (to_z-of_z w64 _ f) at c.if-x-gt0.true) (bits_eq_z {b = pos 1} g (omega arith))
+    rw (rw (to_z-of_z w64 x.least (omega arith)) at c.if-x-gt0.true) (bits_eq_z {a = x.total} {b = pos 1} (omega arith) (omega arith))

@@ -9,9 +9,6 @@ use Rattle.text.proofs.read_text.Goals as goal
 pub returns-in_err-admit_text : goal.returns-in_err-admit_text
 returns-in_err-admit_text c = search (rules, words_refused)
 
-pub words_for-requires : goal.words_for-requires
-words_for-requires c = omega (arith, text_fits _ _ (sym c.admit_text.ensures ∙ c.in_ok-admit_text.was))
-
 pub slice_bounds-write_words-end : goal.slice_bounds-write_words-end
 slice_bounds-write_words-end c = omega (arith, text_fits _ _ (sym c.admit_text.ensures ∙ c.in_ok-admit_text.was))
 

@@ -1,8 +1,7 @@
 -- `walk_code::beyond` makes the climb, the descent and the scan of the target block. Each return is one law of Answers.antt, which needs the
 -- results of climb and descent. Assumes nothing.
-use mathlib.Core.Path.{◌∙◌}
-use Rattle.std.proofs.lemmas.Result.{err_from_is_err_and}
-use Rattle.walk_code.proofs.Answers.{climbs_at, descends_at, lost_answer, leaf_after, target_at, leaf_answer}
+use Rattle.std.proofs.Common.{rules}
+use Rattle.walk_code.proofs.Answers.{climbs_at, descends_at, lost_answer, target_at, leaf_answer}
 use Rattle.walk_code.proofs.beyond.Goals as goal
 
 pub climb-requires : goal.climb-requires
@@ -19,16 +18,11 @@ descend-requires g c =
 pub returns-in_err-leaf : goal.returns-in_err-leaf
 returns-in_err-leaf g c =
     let a = c.args in
-    let p = err_from_is_err_and c.from_residual-in_err-leaf.result c.from_residual-in_err-leaf.ensures.1 in
-    rw (p.1, p.2)
-    (lost_answer _ a.row.words.now _ a.row.nodes.now _ _ a.r a.row.fine c.requires c.ranges.r _ c.layout_of-lay.ensures
-    c.climb.ensures c.in-Some.p (rw c.in-Some.is at c.in_ok-p.was) c.descend.ensures c.in_err-leaf.was)
-
-pub overflow_sub-leaf : goal.overflow_sub-leaf
-overflow_sub-leaf g c =
-    let a = c.args in
-    leaf_after _ a.row.words.now _ a.row.nodes.now _ _ a.r a.row.fine c.requires c.ranges.r _ c.layout_of-lay.ensures
-    c.climb.ensures c.in-Some.p (rw c.in-Some.is at c.in_ok-p.was) c.descend.ensures c.in_ok-leaf.leaf c.in_ok-leaf.was
+    search (
+      rules,
+      lost_answer _ a.row.words.now _ a.row.nodes.now _ _ a.r a.row.fine c.requires c.ranges.r _ c.layout_of-lay.ensures
+          c.climb.ensures c.in-Some.p (rw c.in-Some.is at c.in_ok-p.was) c.descend.ensures,
+    )
 
 pub target_block-requires : goal.target_block-requires
 target_block-requires g c =
@@ -39,6 +33,5 @@ target_block-requires g c =
 pub returns : goal.returns
 returns g c =
     let a = c.args in
-    c.target_block.ensures
-    ∙ leaf_answer _ a.row.words.now _ a.row.nodes.now _ _ a.r a.row.fine c.requires c.ranges.r _ c.layout_of-lay.ensures
-    c.climb.ensures c.in-Some.p (rw c.in-Some.is at c.in_ok-p.was) c.descend.ensures c.in_ok-leaf.leaf c.in_ok-leaf.was
+    leaf_answer _ a.row.words.now _ a.row.nodes.now _ _ a.r a.row.fine c.requires c.ranges.r _ c.layout_of-lay.ensures
+    c.climb.ensures c.in-Some.p (rw c.in-Some.is at c.in_ok-p.was) c.descend.ensures c.in_ok-leaf.leaf c.in_ok-leaf.was c.target_block.ensures

@@ -1,21 +1,16 @@
 -- A read puts its bytes after those that were read before it.
-use Rattle.std.proofs.Common.{◌≡◌, ℕ, ◌+◌, ◌≤◌, List, ◌++◌, rules, length, take, drop, sym, ap, ◌∙◌, subst, le_refl, drop_at, length-take-le}
-use Rattle.std.proofs.lemmas.Slice.{take-put_mid_below}
+use Rattle.std.proofs.Common.{◌≡◌, ℕ, ◌+◌, ◌≤◌, List, ◌++◌, rules, length, take, sym, ap, ◌∙◌, subst, length-take-le}
 use Rattle.std.specs.Io.KnownBytes.{Consumes}
 use Rattle.std.proofs.KnownBytes.{Consumes-trans}
 use borrow.Rule.Slice.PartMut.{put_mid, post_of}
-use lib.Seq.{take-add, take-append-le}
+use lib.Seq.{take-append-add, take-append-le}
 use Rattle.app_line.proofs.input.read_full.Goals as goal
 
 -- The part of the list from a on is overwritten by ys.
 take_grown : (a k n : ℕ) (xs ys : List ℕ) → a ≤ length xs → n ≤ length ys → take a xs ++ take n ys ≡ take (a + n) (put_mid a k xs ys)
 take_grown a k n xs ys within fits =
-    let m = put_mid a k xs ys in
     let after = post_of a k xs in
-    let front : take a m ≡ take a xs = take-put_mid_below _ _ _ _ _ (le_refl _) within in
-    let back : take n (drop a m) ≡ take n ys =
-    ap (take n) (drop_at (take a xs) (ys ++ after) a (length-take-le a xs within)) ∙ take-append-le n ys after fits in
-    sym (take-add a n m ∙ ap (λ l. l ++ take n (drop a m)) front ∙ ap (λ l. take a xs ++ l) back)
+    sym (rw (length-take-le a xs within) at (take-append-add (take a xs) (ys ++ after) n) ∙ ap (λ l. take a xs ++ l) (take-append-le n ys after fits))
 
 pub loop-done-preserved : goal.loop-done-preserved
 loop-done-preserved g c =

@@ -1,7 +1,8 @@
--- `bp_level::level_next` tests the handle v and then answers what `next_of` answers. Assumes nothing.
+-- `bp_level::level_next` tests the handle v and then answers what `walk_twice` answers. Assumes nothing.
 use Rattle.bp_spec.proofs.HandleAnswers.{node_ok}
 use Rattle.bp_spec.specs.LevelCalls.{level_next}
 use Rattle.bp_level.proofs.from_node.level_next.Goals as goal
 
 pub returns : goal.returns
-returns c = let g = c.admit_node.ensures in node_ok _ _ _ _ _ g.gate level_next g.parts c.in_ok-admit_node.was c.next_of.ensures
+unfolding level_next
+returns c = let g = c.admit_node.ensures in node_ok _ _ _ _ _ g.gate level_next g.parts c.in_ok-admit_node.was c.walk_twice.ensures
