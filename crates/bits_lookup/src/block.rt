@@ -8,7 +8,7 @@ ghost use Rattle.bits_stretch.specs.Scan.{scan};
 use crate::summary::byte_summary;
 use bits_stretch::{Direction, Scanned};
 
-// Scans the byte b. A backward scan for r = 0 always reads the bits, and they decide. Where the Rust then reaches `unreachable!`, the
+// Scans the byte b. A backward scan for r = 0 always reads the bits, and they decide. Where the original then reaches `unreachable!`, the
 // result here is the remainder after the byte.
 pub fn scan_byte<D: Direction>(b: u8, r: i64) -> Scanned
     requires { size r + 64 < i64_bound }

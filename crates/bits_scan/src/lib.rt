@@ -1,7 +1,8 @@
 // The scan within a block, in either direction, which reads the bits of a row eight at a time.
 //
 // A scan reads a stretch in three parts: the bits in its first word, whole words, then the bits in its last word. The bits in one word are
-// read in three parts too: bits up to a byte boundary, whole bytes by the lookup, then the bits that are left.
+// read in three parts too: bits up to a byte boundary, whole bytes by the lookup, then the bits that are left. A backward scan reads the
+// parts in the reverse order.
 //
 // The functions refuse nothing. Callers keep the bounds that a `requires` states.
 #![tactic(auto)]
@@ -14,8 +15,8 @@ ghost use Rattle.bits_scan.specs.Parts.{CutAt, parts_of};
 
 use bits_stretch::{Direction, Scanned};
 
-// Scans bytes `from` to `to` - 1 of a word. Here and in `scan_words` a `match` moves the hit, and not `moved` with `?`: the loop is up to a
-// twentieth faster.
+// Scans bytes `from` to `to` - 1 of a word. A `match` moves the hit here and in `scan_words`: with `moved` and `?` the loops are up to a
+// twentieth slower.
 fn scan_bytes<D: Direction>(word: u64, from: usize, to: usize, r: i64) -> Scanned
     requires { WordScan 8 from to r }
     ensures { result ≡ scan D.way (digit word) (8 * (to - from)) (8 * from) r }

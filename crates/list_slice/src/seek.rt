@@ -1,7 +1,8 @@
 // What a listing of children holds at first and after each step, computed from slices and numbers.
 //
 // The public calls that these functions use test all their arguments, so any values are safe. The parameters have the order of the fields of
-// a listing. The direction is a value and no type, because a listing keeps it in a field and C passes it. `list_struct`, which keeps a listing and steps it, and `write`, which writes all answers at once, both use these functions.
+// a listing. The direction is a value and no type, because a listing keeps it in a field and C passes it. `list_struct`, which keeps a
+// listing and steps it, and `write`, which writes all answers at once, both use these functions.
 ghost use Rattle.std.specs.Prelude.{◌≡◌, true, false};
 ghost use Rattle.row.specs.Answer.{paper_found};
 ghost use Rattle.list_slice.specs.Seek.{sought, held_after};

@@ -1,6 +1,6 @@
 // The layout of the min-max tree in the node buffer: inner nodes first, then block leaves. The children of node k are nodes 2k+1 and 2k+2.
-// `admit` makes the tests for refusals 1 to 4, in this order. A call that only reads its node buffer makes them by `Admitted::new`, and
-// passes the admitted row on. What the tests have shown is an invariant of its type (specs/Layout.antt, record `Fine`).
+// `admit` makes the tests for refusals 1 to 4, in this order. A call that walks makes them by `Admitted::new`, and passes the admitted
+// row on. What the tests have shown is an invariant of its type (specs/Layout.antt, record `Fine`).
 #![tactic(auto)]
 
 ghost use Rattle.std.specs.Prelude.{◌≡◌, ◌+◌, ◌*◌, ◌≤◌, length, IfOk};

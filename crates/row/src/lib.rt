@@ -5,7 +5,7 @@
 // A gate is the tests that a call makes before it answers. The definitions that all promises cite are in specs/:
 // bit, excess, the two searches, one tree.
 //
-// A function with a `requires` makes no test of its own, because its callers have passed tests 2 and 3.
+// A function with a `requires` makes no test of its own, because its callers know what it requires.
 #![tactic(auto)]
 
 mod answer;

@@ -28,31 +28,22 @@ fn tell_number(rt: &impl Print, x: i64) -> io::Result<()> {
     }
 }
 
-// Returns the outline node after v on its level, or the one before it.
-fn beside(words: &[u64], n: usize, nodes: &[i64], rising: bool, v: usize) -> Found {
-    if rising {
-        bp::level_next(words, n, nodes, 8, v)
-    } else {
-        bp::level_prev(words, n, nodes, 8, v)
-    }
-}
-
-// Prints a level from one end to the other. `from` is the answer for the first end.
-fn along(
+// Prints a level from one end to the other. `from` is the answer for the first end, and `next` gives the node after another one.
+fn tell_level<F: Fn(usize) -> Found>(
     rt: &impl Print,
-    words: &[u64],
     n: usize,
-    nodes: &[i64],
-    rising: bool,
     from: Found,
-) -> io::Result<()> {
+    next: F,
+) -> io::Result<()>
+    requires { F.IsAlwaysCallable next }
+{
     let mut f = from;
     for _ in 0..n {
         tell(rt, f)?;
         let Ok(Some(v)) = f else {
             return Ok(());
         };
-        f = beside(words, n, nodes, rising, v);
+        f = next(v);
     }
     Ok(())
 }
@@ -60,24 +51,12 @@ fn along(
 // Prints the levels from 0 to `deepest` - 1, in both directions. Callers pass a `deepest` for which the last of these levels is empty.
 fn levels(rt: &impl Print, words: &[u64], n: usize, nodes: &[i64], deepest: u64) -> io::Result<()> {
     for k in 0..deepest {
+        let first = bp::level_leftmost(words, n, nodes, 8, k);
         test_say::number(rt, b"level", k)?;
-        along(
-            rt,
-            words,
-            n,
-            nodes,
-            true,
-            bp::level_leftmost(words, n, nodes, 8, k),
-        )?;
+        tell_level(rt, n, first, |v| bp::level_next(words, n, nodes, 8, v))?;
+        let last = bp::level_rightmost(words, n, nodes, 8, k);
         test_say::number(rt, b"level", k)?;
-        along(
-            rt,
-            words,
-            n,
-            nodes,
-            false,
-            bp::level_rightmost(words, n, nodes, 8, k),
-        )?;
+        tell_level(rt, n, last, |v| bp::level_prev(words, n, nodes, 8, v))?;
     }
     Ok(())
 }
@@ -156,7 +135,7 @@ fn small(rt: &impl Print) -> io::Result<()> {
     listing(rt, 27, 0, 8, 12, true, 0)
 }
 
-// One outline node: `level_rightmost(0)` is nothing, as in the Rust.
+// One outline node: `level_rightmost(0)` is nothing, as in the original.
 fn pair(rt: &impl Print) -> io::Result<()> {
     test_say::line(rt, b"()")?;
     outline(rt, 1, 0, 2, 2, 2)

@@ -35,7 +35,7 @@ use Rattle.walk_examine.specs.declared.node.Asked.{Asked}
 use Rattle.walk_examine.specs.declared.node.Asked.TheVariants.{Past}
 use Rattle.walk_examine.specs.Asked.{asked_of, Room}
 use Rattle.walk_examine.proofs.Asks.{passed_size, back, answer, says, past_size}
-use Rattle.walk_climb.specs.declared.Place.{Place}
+use Rattle.walk_examine.specs.declared.place.Place.{Place}
 use Rattle.walk_climb.specs.declared.Sibling.{Sibling}
 use Rattle.walk_climb.specs.Climbed.{climbed_of, step_of, climbed_on, Rises, Beside, Part}
 

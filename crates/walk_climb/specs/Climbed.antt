@@ -11,7 +11,7 @@ use Rattle.walk_examine.specs.declared.node.Asked.{Asked}
 use Rattle.walk_examine.specs.declared.node.Asked.TheVariants.{Here, Past, Absent}
 use Rattle.row.specs.declared.refusal.Refusal.{Refusal}
 use Rattle.row.specs.declared.refusal.Refusal.TheVariants.{NodesMisfit}
-use Rattle.walk_climb.specs.declared.Place.{Place}
+use Rattle.walk_examine.specs.declared.place.Place.{Place}
 use Rattle.walk_climb.specs.declared.Sibling.{Sibling}
 
 -- A climb can begin at node k of m nodes at height h: node k exists, and r has room for the whole climb.

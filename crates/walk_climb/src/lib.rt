@@ -11,15 +11,8 @@ ghost use Rattle.walk_climb.specs.Climbed.{climbed_of, Climbs, Above, Part};
 use bits_stretch::Direction;
 use row::Refusal;
 use std::ops::ControlFlow;
+pub use walk_examine::Place;
 use walk_examine::{Asked, Nodes};
-
-// Where a walk stands on its way up: at a node, at a height, with a remainder.
-#[derive(Clone, Copy, Debug, PartialEq, Eq)]
-pub struct Place {
-    pub node: usize,
-    pub height: usize,
-    pub remainder: i64,
-}
 
 // A sibling beyond a node that a climb has reached: the sibling, its parent, and its height.
 #[derive(Clone, Copy)]
@@ -54,26 +47,21 @@ fn sibling_above<D: Direction>(k: usize, h: usize) -> Option<Sibling>
     None
 }
 
-// Goes up from node k at height h to the next sibling beyond, and asks it. It breaks off where the descent begins, or out of the tree.
+// Goes up from place p to the next sibling beyond, and asks it. It breaks off where the descent begins, or out of the tree.
 // If the sibling is passed, the climb goes on at the parent with the remainder after the sibling.
 #[tactic(auto, using(crate::proofs::Climbs::part_on))]
-fn up<D: Direction>(
-    nodes: &Nodes,
-    k: usize,
-    h: usize,
-    r: i64,
-) -> Result<ControlFlow<Option<Place>, Place>, Refusal>
-    requires { Climbs nodes.now.all k h r }
-    ensures { Part D.way nodes.now.all nodes.now.buffer.now k h r result }
+fn up<D: Direction>(nodes: &Nodes, p: Place) -> Result<ControlFlow<Option<Place>, Place>, Refusal>
+    requires { Climbs nodes.now.all p.node p.height p.remainder }
+    ensures { Part D.way nodes.now.all nodes.now.buffer.now p.node p.height p.remainder result }
 {
-    let Some(s) = sibling_above::<D>(k, h) else {
+    let Some(s) = sibling_above::<D>(p.node, p.height) else {
         return Ok(ControlFlow::Break(None));
     };
-    match nodes.ask::<D>(s.node, r)? {
+    match nodes.ask::<D>(s.node, p.remainder)? {
         Asked::Here => Ok(ControlFlow::Break(Some(Place {
             node: s.node,
             height: s.height,
-            remainder: r,
+            remainder: p.remainder,
         }))),
         Asked::Past(q) => Ok(ControlFlow::Continue(Place {
             node: s.parent,
@@ -84,20 +72,16 @@ fn up<D: Direction>(
     }
 }
 
-// Climbs from node k at height h to the sibling that qualifies for r, where the descent begins. Out of the tree there is none.
+// Climbs from place p to the sibling that qualifies for its remainder, where the descent begins. Out of the tree there is none.
 // The index of the node falls with each sibling that is asked. One call asks up to two siblings, because each call costs a stack frame.
-pub fn climb<D: Direction>(
-    nodes: &Nodes,
-    k: usize,
-    h: usize,
-    r: i64,
-) -> Result<Option<Place>, Refusal>
-    requires { Climbs nodes.now.all k h r }
-    ensures { result ≡ climbed_of (climb D.way nodes.now.all nodes.now.buffer.now k h k r 0) }
+pub fn climb<D: Direction>(nodes: &Nodes, p: Place) -> Result<Option<Place>, Refusal>
+    requires { Climbs nodes.now.all p.node p.height p.remainder }
+    ensures { result
+        ≡ climbed_of (climb D.way nodes.now.all nodes.now.buffer.now p.node p.height p.node p.remainder 0) }
 {
-    match up::<D>(nodes, k, h, r)? {
-        ControlFlow::Continue(p) => match up::<D>(nodes, p.node, p.height, p.remainder)? {
-            ControlFlow::Continue(q) => climb::<D>(nodes, q.node, q.height, q.remainder),
+    match up::<D>(nodes, p)? {
+        ControlFlow::Continue(q) => match up::<D>(nodes, q)? {
+            ControlFlow::Continue(t) => climb::<D>(nodes, t),
             ControlFlow::Break(a) => Ok(a),
         },
         ControlFlow::Break(a) => Ok(a),

@@ -41,7 +41,7 @@ use Rattle.walk_spec.proofs.Stretches.{block_place}
 use Rattle.walk_spec.proofs.Right.{block_of}
 use Rattle.walk_examine.specs.Asked.{Room}
 use Rattle.walk_examine.proofs.Asks.{back}
-use Rattle.walk_climb.specs.declared.Place.{Place}
+use Rattle.walk_examine.specs.declared.place.Place.{Place}
 use Rattle.walk_climb.specs.Climbed.{climbed_of, Climbs}
 use Rattle.walk_climb.proofs.Climbs.{Turned, turned}
 use Rattle.walk_descend.specs.declared.Leaf.{Leaf}
@@ -168,14 +168,12 @@ module _ (w : Way) (ws : List ℕ) (n : ℕ) (s : List ℤ) (B b : ℕ) (r : ℤ
     turn_at : Turned (count n B) (top n B) (Ok (Some k))
     turn_at = turn_there w ws n s B b r fine.eight fine.short p.begins p.near k climbed
 
-    pub descends_at : Descends (x.inner + x.leaves) k.node k.height (to_z w64 (of_z w64 k.remainder))
-    descends_at =
-        rw (back k.height k.remainder turn_at.2, laid.all)
-        (record { inside = turn_at.0; few = laid.few; room = turn_at.2 })
+    pub descends_at : Descends (x.inner + x.leaves) k.node k.height k.remainder
+    descends_at = rw laid.all (record { inside = turn_at.0; few = laid.few; room = turn_at.2 })
 
-    module _ {y : Result Leaf Refusal} (d : y ≡ descended_of (descend w (x.inner + x.leaves) s k.height k.node (to_z w64 (of_z w64 k.remainder)) 0)) where
+    module _ {y : Result Leaf Refusal} (d : y ≡ descended_of (descend w (x.inner + x.leaves) s k.height k.node k.remainder 0)) where
       landing : y ≡ descended_of (descend w (count n B) s k.height k.node k.remainder 0)
-      landing = rw (back k.height k.remainder turn_at.2, laid.all) at d
+      landing = rw laid.all at d
 
       pub lost_answer : {q : Refusal} → y ≡ Err q → paper_found (Err q) ≡ (beyond w ws n s B b r).answer
       lost_answer {q} l = beyond_lost w ws n s B b r k climbed q (sym landing ∙ l)

@@ -21,7 +21,7 @@ use mmt_layout::Admitted;
 use row::{Found, Refusal};
 pub use start::{FirstBits, StartOfWalk};
 use std::ops::ControlFlow;
-use walk_climb::climb;
+use walk_climb::{Place, climb};
 use walk_descend::descend;
 use walk_examine::Nodes;
 
@@ -51,10 +51,15 @@ fn beyond<D: Direction>(row: Admitted, b: usize, r: i64) -> Found
         buffer: row.nodes,
         all: first + lay.leaves,
     };
-    let Some(p) = climb::<D>(&nodes, first + b, 0, r)? else {
+    let start = Place {
+        node: first + b,
+        height: 0,
+        remainder: r,
+    };
+    let Some(p) = climb::<D>(&nodes, start)? else {
         return Ok(None);
     };
-    let leaf = descend::<D>(&nodes, p.node, p.height, p.remainder)?;
+    let leaf = descend::<D>(&nodes, p)?;
     target_block::<D>(row, leaf.node - first, leaf.remainder)
 }
 

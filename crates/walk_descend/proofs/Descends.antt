@@ -26,8 +26,7 @@ use borrow.Author.Tests.{leb-false}
 use lib.Dec.{leb}
 use lib.IntN.{ℤ}
 use mir.Syntax.{w64}
-use mir.Val.{SFits, to_z, of_z}
-use mir.ValLaws.{to_z-of_z}
+use mir.Val.{to_z, of_z}
 use Rattle.std.specs.Prelude.{Result, Ok, Err}
 use Rattle.std.proofs.lemmas.Bool.{cond_both}
 use Rattle.row.specs.Way.{Way}
@@ -44,7 +43,7 @@ use Rattle.walk_spec.proofs.Steps.{descend_leaf}
 use Rattle.walk_examine.specs.declared.node.Asked.{Asked}
 use Rattle.walk_examine.specs.declared.node.Asked.TheVariants.{Here, Past, Absent}
 use Rattle.walk_examine.specs.Asked.{asked_of, Room}
-use Rattle.walk_examine.proofs.Asks.{passed_size, room_fits, back, says, past_size}
+use Rattle.walk_examine.proofs.Asks.{passed_size, back, says, past_size}
 use Rattle.walk_descend.specs.declared.Leaf.{Leaf}
 use Rattle.walk_descend.specs.Descended.{descended_of, Descends}
 
@@ -185,19 +184,15 @@ module _ (w : Way) (m : ℕ) (s : List ℤ) where
         (λ d. tt))))
         (λ g. tt))
 
-  -- ---- h levels in two parts: a levels by a call with the result c, and the b levels left; the machine reads the remainder back from 64 bits
-  module _ (a b h k : ℕ) (r : ℤ) (z : h ≡ a + b) (f : SFits w64 r)
-      {c : Result Leaf Refusal} (p : c ≡ descended_of (descend w m s a k (to_z w64 (of_z w64 r)) 0)) where
-    went : c ≡ descended_of (descend w m s a k r 0)
-    went = rw (to_z-of_z w64 r f) at p
-
+  -- ---- h levels in two parts: a levels by a call with the result c, and the b levels left
+  module _ (a b h k : ℕ) (r : ℤ) (z : h ≡ a + b) {c : Result Leaf Refusal} (p : c ≡ descended_of (descend w m s a k r 0)) where
     told_then : {d : Result Leaf Refusal} → c ≡ d → on_down b d ≡ descended_of (descend w m s h k r 0)
-    told_then e = rw (z, sym e, went) (then_down a b k r 0)
+    told_then e = rw (z, sym e, p) (then_down a b k r 0)
 
     module _ (l : Leaf) (e : c ≡ Ok l) (t : Descends m k h r) where
       fallen : (l.node < m) × Room b l.remainder
       fallen =
-          rw (sym went ∙ e) at
+          rw (sym p ∙ e) at
           (kept (λ g j q. (j < m) × Room g q) (λ g j q u p. let v = p.1 in (u, omega arith))
           (λ g j q x y u p. let v = p.1 in (u, omega (arith, passed_size w q x y))) a b k r 0 (t.inside, rw z at t.room))
 
@@ -205,16 +200,20 @@ module _ (w : Way) (m : ℕ) (s : List ℤ) where
       told_left = record { inside = fallen.0; few = t.few; room = fallen.1 }
 
   -- ---- the calls of `down_two` by up to two levels, h of them in all
-  module _ (h k : ℕ) (some : 0 < h) (r : ℤ) (f : SFits w64 r) {c : Result Leaf Refusal} (p : c ≡ descended_of (descend w m s 1 k (to_z w64 (of_z w64 r)) 0)) where
+  module _ (h k : ℕ) (some : 0 < h) (r : ℤ) (t : Descends m k h r)
+      {c : Result Leaf Refusal} (p : c ≡ descended_of (descend w m s 1 k (to_z w64 (of_z w64 r)) 0)) where
+    went : c ≡ descended_of (descend w m s 1 k r 0)
+    went = rw (back h r t.room) at p
+
     one_then : {x : Result Leaf Refusal} → c ≡ x → on_down (min h 2 - 1) x ≡ descended_of (descend w m s (min h 2) k r 0)
-    one_then = told_then 1 (min h 2 - 1) (min h 2) k r (omega arith) f p
+    one_then = told_then 1 (min h 2 - 1) (min h 2) k r (omega arith) went
 
     pub one_err : {e : Refusal} → c ≡ Err e → Err e ≡ descended_of (descend w m s (min h 2) k r 0)
     one_err = one_then
 
-    module _ (l : Leaf) (e : c ≡ Ok l) (t : Descends m k h r) where
+    module _ (l : Leaf) (e : c ≡ Ok l) where
       left : Descends m l.node (h - 1) l.remainder
-      left = told_left 1 (h - 1) h k r (omega arith) f p l e t
+      left = told_left 1 (h - 1) h k r (omega arith) went l e t
 
       pub one_left : 1 < h → Descends m l.node 1 (to_z w64 (of_z w64 l.remainder))
       one_left o = rw (back (h - 1) l.remainder left.room) (record { inside = left.inside; few = left.few; room = (let q = left.room in omega arith) })
@@ -226,26 +225,26 @@ module _ (w : Way) (m : ℕ) (s : List ℤ) where
           (rw (back (h - 1) l.remainder left.room) at q) ∙ (rw d at (one_then e))
 
   -- ---- the calls of `descend` by h levels, each of which goes down by up to two
-  module _ (h k : ℕ) (r : ℤ) (f : SFits w64 r) {c : Result Leaf Refusal} (p : c ≡ descended_of (descend w m s (min h 2) k (to_z w64 (of_z w64 r)) 0)) where
+  module _ (h k : ℕ) (r : ℤ) (t : Descends m k h r) {c : Result Leaf Refusal} (p : c ≡ descended_of (descend w m s (min h 2) k r 0)) where
     two_then : {d : Result Leaf Refusal} → c ≡ d → on_down (h - 2) d ≡ descended_of (descend w m s h k r 0)
-    two_then = told_then (min h 2) (h - 2) h k r (omega arith) f p
+    two_then = told_then (min h 2) (h - 2) h k r (omega arith) p
 
     pub two_err : {e : Refusal} → c ≡ Err e → Err e ≡ descended_of (descend w m s h k r 0)
     two_err = two_then
 
-    module _ (l : Leaf) (e : c ≡ Ok l) (t : Descends m k h r) where
+    module _ (l : Leaf) (e : c ≡ Ok l) where
       left₂ : Descends m l.node (h - 2) l.remainder
-      left₂ = told_left (min h 2) (h - 2) h k r (omega arith) f p l e t
+      left₂ = told_left (min h 2) (h - 2) h k r (omega arith) p l e t
 
       pub two_left : Descends m l.node (h - 2) (to_z w64 (of_z w64 l.remainder))
       two_left = rw (back (h - 2) l.remainder left₂.room) left₂
 
       module _ {d : Result Leaf Refusal} (q : d ≡ descended_of (descend w m s (min (h - 2) 2) l.node (to_z w64 (of_z w64 l.remainder)) 0)) where
-        fits₂ : SFits w64 l.remainder
-        fits₂ = room_fits (h - 2) l.remainder left₂.room
+        went₂ : d ≡ descended_of (descend w m s (min (h - 2) 2) l.node l.remainder 0)
+        went₂ = rw (back (h - 2) l.remainder left₂.room) at q
 
         four_then : {x : Result Leaf Refusal} → d ≡ x → on_down (h - 4) x ≡ descended_of (descend w m s h k r 0)
-        four_then u = told_then (min (h - 2) 2) (h - 4) (h - 2) l.node l.remainder (omega arith) fits₂ q u ∙ two_then e
+        four_then u = told_then (min (h - 2) 2) (h - 4) (h - 2) l.node l.remainder (omega arith) went₂ u ∙ two_then e
 
         pub four_err : {e : Refusal} → d ≡ Err e → Err e ≡ descended_of (descend w m s h k r 0)
         four_err = four_then
@@ -255,7 +254,7 @@ module _ (w : Way) (m : ℕ) (s : List ℤ) where
           four_end o = descended_leaf (h - 4) i.node i.remainder (omega arith) ∙ four_then u
 
           left₄ : Descends m i.node (h - 4) i.remainder
-          left₄ = told_left (min (h - 2) 2) (h - 4) (h - 2) l.node l.remainder (omega arith) fits₂ q i u left₂
+          left₄ = told_left (min (h - 2) 2) (h - 4) (h - 2) l.node l.remainder (omega arith) went₂ i u left₂
 
           pub four_left : Descends m i.node (h - 4) (to_z w64 (of_z w64 i.remainder))
           four_left = rw (back (h - 4) i.remainder left₄.room) left₄

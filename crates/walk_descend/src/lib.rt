@@ -9,7 +9,7 @@ ghost use Rattle.walk_descend.specs.Descended.{descended_of, Descends};
 
 use bits_stretch::Direction;
 use row::Refusal;
-use walk_examine::{Asked, Nodes};
+use walk_examine::{Asked, Nodes, Place};
 
 // A node that a descent has reached, and the remainder there. It is a block leaf if no level is left.
 #[derive(Clone, Copy, Debug, PartialEq, Eq)]
@@ -42,39 +42,49 @@ fn down<D: Direction>(nodes: &Nodes, k: usize, r: i64) -> Result<Leaf, Refusal>
     }
 }
 
-// Goes down from node k with h levels left, by two levels or by h if h is less.
+// Goes down from place p by two levels, or by its height if that is less.
 #[tactic(auto, using(crate::proofs::Descends::descended_leaf, crate::proofs::Descends::one_err))]
-fn down_two<D: Direction>(nodes: &Nodes, k: usize, h: usize, r: i64) -> Result<Leaf, Refusal>
-    requires { Descends nodes.now.all k h r }
-    ensures { result ≡ descended_of (descend D.way nodes.now.all nodes.now.buffer.now (min h 2) k r 0) }
+fn down_two<D: Direction>(nodes: &Nodes, p: Place) -> Result<Leaf, Refusal>
+    requires { Descends nodes.now.all p.node p.height p.remainder }
+    ensures { result ≡ descended_of (descend D.way nodes.now.all nodes.now.buffer.now (min p.height 2) p.node p.remainder 0) }
 {
-    if h == 0 {
+    if p.height == 0 {
         return Ok(Leaf {
-            node: k,
-            remainder: r,
+            node: p.node,
+            remainder: p.remainder,
         });
     }
-    let one = down::<D>(nodes, k, r)?;
-    if h == 1 {
+    let one = down::<D>(nodes, p.node, p.remainder)?;
+    if p.height == 1 {
         return Ok(one);
     }
     down::<D>(nodes, one.node, one.remainder)
 }
 
-// Descends from node k with h levels left to a block leaf. The levels left fall by up to four per call,
+// Descends from place p to a block leaf. The height falls by up to four per call,
 // because each call costs a stack frame and its result is copied on the way back.
 #[tactic(auto, using(crate::proofs::Descends::two_err))]
-pub fn descend<D: Direction>(nodes: &Nodes, k: usize, h: usize, r: i64) -> Result<Leaf, Refusal>
-    requires { Descends nodes.now.all k h r }
-    ensures { result ≡ descended_of (descend D.way nodes.now.all nodes.now.buffer.now h k r 0) }
+pub fn descend<D: Direction>(nodes: &Nodes, p: Place) -> Result<Leaf, Refusal>
+    requires { Descends nodes.now.all p.node p.height p.remainder }
+    ensures { result ≡ descended_of (descend D.way nodes.now.all nodes.now.buffer.now p.height p.node p.remainder 0) }
 {
-    let two = down_two::<D>(nodes, k, h, r)?;
-    if h <= 2 {
+    let two = down_two::<D>(nodes, p)?;
+    if p.height <= 2 {
         return Ok(two);
     }
-    let four = down_two::<D>(nodes, two.node, h - 2, two.remainder)?;
-    if h <= 4 {
+    let q = Place {
+        node: two.node,
+        height: p.height - 2,
+        remainder: two.remainder,
+    };
+    let four = down_two::<D>(nodes, q)?;
+    if p.height <= 4 {
         return Ok(four);
     }
-    descend::<D>(nodes, four.node, h - 4, four.remainder)
+    let t = Place {
+        node: four.node,
+        height: p.height - 4,
+        remainder: four.remainder,
+    };
+    descend::<D>(nodes, t)
 }

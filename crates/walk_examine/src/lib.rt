@@ -6,6 +6,8 @@
 
 mod node;
 mod nodes;
+mod place;
 
 pub use node::{Asked, examine};
 pub use nodes::Nodes;
+pub use place::Place;
