@@ -1,5 +1,5 @@
 // Puts all output of the program on a page, from the bytes that were read.
-ghost use Rattle.std.specs.Prelude.{◌≡◌, []};
+ghost use Rattle.std.specs.Prelude.{◌≡◌};
 ghost use Rattle.app_page.specs.Page.{added};
 ghost use Rattle.app_levels.specs.Printed.{printed, ShortTree};
 ghost use Rattle.app_levels.specs.Outline.{defined_lines};
@@ -19,12 +19,12 @@ fn put_built(page: &mut Page, words: &[u64; 64], n: usize)
     }
 }
 
-// Puts the lines of the tree that the bytes encode, or the line of a refusal. A page of 65,536 bytes has room for all output: the first line
-// and at most 2,048 lines of outline nodes, of at most 20 bytes each.
+// Puts the lines of the tree that the bytes encode, or the line of a refusal, in place of all that the page holds. A page of 65,536 bytes has
+// room for all output: the first line and at most 2,048 lines of outline nodes, of at most 20 bytes each.
 pub fn put_answer(page: &mut Page, bytes: &[u8])
-    requires { page.old ≡ [] }
     ensures { page.new ≡ printed bytes.now }
 {
+    *page = Page::new();
     let mut words = [0u64; 64];
     match app_line::read_tree(bytes, &mut words) {
         Ok(n) => put_built(page, &words, n),

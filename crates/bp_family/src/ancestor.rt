@@ -12,7 +12,7 @@ ghost use Rattle.bp_spec.specs.HandleCalls.{HandlePromise};
 ghost use Rattle.bp_spec.specs.AncestorCalls.{parent, is_ancestor, both_gate, AncestorPromise};
 
 use bits_stretch::{Backward, Forward};
-use bp_handle::admit_node;
+use bp_handle::row_for_node;
 use mmt_layout::Admitted;
 use row::{Found, Refusal, Told};
 use walk_code::walk;
@@ -22,7 +22,7 @@ use walk_code::walk;
 pub fn parent(words: &[u64], n: usize, nodes: &[i64], block: usize, v: usize) -> Found
     ensures { HandlePromise parent words.now n nodes.now block v (paper_found result) }
 {
-    walk::<Backward>(admit_node(words, n, nodes, block, v)?, v, -1)
+    walk::<Backward>(row_for_node(words, n, nodes, block, v)?, v, -1)
 }
 
 // Tests refusals 1 to 5, in this order, for the handles a and d.
@@ -38,7 +38,7 @@ fn admit_both<'a>(
         ≡ and_then (nodes_gate (length words.now) n (length nodes.now) block) (both_gate words.now n a d) }
     ensures parts { IfOk result (HasParts words.now n nodes.now block) }
 {
-    let admitted = admit_node(words, n, nodes, block, a)?;
+    let admitted = row_for_node(words, n, nodes, block, a)?;
     admitted.row().admit_handle(d)?;
     Ok(admitted)
 }

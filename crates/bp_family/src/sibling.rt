@@ -9,7 +9,7 @@ ghost use Rattle.bp_spec.specs.HandleCalls.{HandlePromise};
 ghost use Rattle.bp_spec.specs.SiblingCalls.{last_child, next_sibling, previous_sibling};
 
 use bits_stretch::{Backward, Forward};
-use bp_handle::{admit_node, handle_after};
+use bp_handle::{handle_after, row_for_node};
 use mmt_layout::Admitted;
 use row::Found;
 use walk_code::walk;
@@ -19,7 +19,7 @@ use walk_code::walk;
 pub fn last_child(words: &[u64], n: usize, nodes: &[i64], block: usize, v: usize) -> Found
     ensures { HandlePromise last_child words.now n nodes.now block v (paper_found result) }
 {
-    last_of(admit_node(words, n, nodes, block, v)?, v)
+    last_of(row_for_node(words, n, nodes, block, v)?, v)
 }
 
 // Answers `last_child(v)` after its tests have passed.
@@ -42,7 +42,7 @@ fn last_of(row: Admitted, v: usize) -> Found
 pub fn next_sibling(words: &[u64], n: usize, nodes: &[i64], block: usize, v: usize) -> Found
     ensures { HandlePromise next_sibling words.now n nodes.now block v (paper_found result) }
 {
-    next_of(admit_node(words, n, nodes, block, v)?, v)
+    next_of(row_for_node(words, n, nodes, block, v)?, v)
 }
 
 // Answers `next_sibling(v)` after its tests have passed.
@@ -61,7 +61,7 @@ fn next_of(row: Admitted, v: usize) -> Found
 pub fn previous_sibling(words: &[u64], n: usize, nodes: &[i64], block: usize, v: usize) -> Found
     ensures { HandlePromise previous_sibling words.now n nodes.now block v (paper_found result) }
 {
-    previous_of(admit_node(words, n, nodes, block, v)?, v)
+    previous_of(row_for_node(words, n, nodes, block, v)?, v)
 }
 
 // Answers `previous_sibling(v)` after its tests have passed.

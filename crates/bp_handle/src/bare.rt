@@ -4,7 +4,7 @@ ghost use Rattle.row.specs.Answer.{paper_found, paper_told};
 ghost use Rattle.row.specs.Gates.{row_gate, through};
 ghost use Rattle.bp_spec.specs.RowCalls.{handle_at, handle_answer, root, first_child, is_leaf};
 
-use crate::gate::admit_handle;
+use crate::gate::row_for_handle;
 use row::{Found, Row, Told};
 
 // Returns 0, the root of a row with bits, and nothing if n = 0.
@@ -30,7 +30,7 @@ pub fn handle_after(row: Row, c: usize) -> Option<usize>
 pub fn first_child(words: &[u64], n: usize, v: usize) -> Found
     ensures { paper_found result ≡ handle_answer first_child words.now n v }
 {
-    Ok(handle_after(admit_handle(words, n, v)?, v))
+    Ok(handle_after(row_for_handle(words, n, v)?, v))
 }
 
 // Tests whether v is an outline leaf: position v + 1 is a close bit of the row.
@@ -38,5 +38,5 @@ pub fn first_child(words: &[u64], n: usize, v: usize) -> Found
 pub fn is_leaf(words: &[u64], n: usize, v: usize) -> Told
     ensures { paper_told result ≡ handle_answer is_leaf words.now n v }
 {
-    Ok(Some(admit_handle(words, n, v)?.closes(v + 1)))
+    Ok(Some(row_for_handle(words, n, v)?.closes(v + 1)))
 }

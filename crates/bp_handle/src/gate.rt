@@ -1,4 +1,7 @@
 // The tests before a call that takes a handle.
+//
+// `admit_handle` and `admit_node` return only which test failed first. Their result borrows nothing, so a caller that keeps it may write
+// to the slices. `row_for_handle` and `row_for_node` make the same tests and return the row that has passed them.
 ghost use Rattle.std.specs.Prelude.{◌≡◌, length, IfOk};
 ghost use Rattle.row.specs.Gates.{row_gate, handle_gate, and_then, gate_of};
 ghost use Rattle.row.specs.Parts.{HasBits};
@@ -9,7 +12,30 @@ use mmt_layout::Admitted;
 use row::{Refusal, Row};
 
 // Tests refusals 2, 3 and 5, in this order, for the handle v.
-pub fn admit_handle<'a>(words: &'a [u64], n: usize, v: usize) -> Result<Row<'a>, Refusal>
+pub fn admit_handle(words: &[u64], n: usize, v: usize) -> Result<(), Refusal>
+    ensures { result ≡ and_then (row_gate (length words.now) n) (handle_gate words.now n v) }
+{
+    row_for_handle(words, n, v)?;
+    Ok(())
+}
+
+// Tests refusals 1 to 5, in this order, for the handle v.
+pub fn admit_node(
+    words: &[u64],
+    n: usize,
+    nodes: &[i64],
+    block: usize,
+    v: usize,
+) -> Result<(), Refusal>
+    ensures { result
+        ≡ and_then (nodes_gate (length words.now) n (length nodes.now) block) (handle_gate words.now n v) }
+{
+    row_for_node(words, n, nodes, block, v)?;
+    Ok(())
+}
+
+// Tests refusals 2, 3 and 5, in this order, for the handle v. Returns the row.
+pub fn row_for_handle<'a>(words: &'a [u64], n: usize, v: usize) -> Result<Row<'a>, Refusal>
     ensures gate { gate_of result ≡ and_then (row_gate (length words.now) n) (handle_gate words.now n v) }
     ensures parts { IfOk result (HasBits words.now n) }
 {
@@ -18,8 +44,8 @@ pub fn admit_handle<'a>(words: &'a [u64], n: usize, v: usize) -> Result<Row<'a>,
     Ok(row)
 }
 
-// Tests refusals 1 to 5, in this order, for the handle v.
-pub fn admit_node<'a>(
+// Tests refusals 1 to 5, in this order, for the handle v. Returns the admitted row.
+pub fn row_for_node<'a>(
     words: &'a [u64],
     n: usize,
     nodes: &'a [i64],

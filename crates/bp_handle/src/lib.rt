@@ -8,4 +8,4 @@ mod bare;
 mod gate;
 
 pub use bare::{first_child, handle_after, is_leaf, root};
-pub use gate::{admit_handle, admit_node};
+pub use gate::{admit_handle, admit_node, row_for_handle, row_for_node};

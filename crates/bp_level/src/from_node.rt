@@ -9,7 +9,7 @@ ghost use Rattle.bp_spec.specs.HandleCalls.{HandlePromise};
 ghost use Rattle.bp_spec.specs.LevelCalls.{level_ancestor, level_next, level_prev};
 
 use bits_stretch::{Backward, Forward};
-use bp_handle::admit_node;
+use bp_handle::row_for_node;
 use mmt_layout::Admitted;
 use row::Found;
 use walk_code::{StartOfWalk, walk};
@@ -62,7 +62,7 @@ pub fn level_ancestor(
 ) -> Found
     ensures { HandlePromise (level_ancestor k) words.now n nodes.now block v (paper_found result) }
 {
-    ancestor_at(admit_node(words, n, nodes, block, v)?, v, k)
+    ancestor_at(row_for_node(words, n, nodes, block, v)?, v, k)
 }
 
 // Returns the next outline node on the level of v: fwd(c, 1) with c = `close(v)`.
@@ -70,7 +70,7 @@ pub fn level_ancestor(
 pub fn level_next(words: &[u64], n: usize, nodes: &[i64], block: usize, v: usize) -> Found
     ensures { HandlePromise level_next words.now n nodes.now block v (paper_found result) }
 {
-    walk_twice::<Forward>(admit_node(words, n, nodes, block, v)?, v, -1, 1)
+    walk_twice::<Forward>(row_for_node(words, n, nodes, block, v)?, v, -1, 1)
 }
 
 // Returns the previous outline node on the level of v: `open(j)` with j = bwd(v, 1).
@@ -78,5 +78,5 @@ pub fn level_next(words: &[u64], n: usize, nodes: &[i64], block: usize, v: usize
 pub fn level_prev(words: &[u64], n: usize, nodes: &[i64], block: usize, v: usize) -> Found
     ensures { HandlePromise level_prev words.now n nodes.now block v (paper_found result) }
 {
-    walk_twice::<Backward>(admit_node(words, n, nodes, block, v)?, v, 1, -1)
+    walk_twice::<Backward>(row_for_node(words, n, nodes, block, v)?, v, 1, -1)
 }

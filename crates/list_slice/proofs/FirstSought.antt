@@ -5,7 +5,7 @@
 --   unrefused: an answer that is no refusal
 --   sought_passed: if the constructor finds no refusal, the tests passed
 -- Assumes nothing.
-use mathlib.Core.Path.{◌≡◌, refl, sym}
+use mathlib.Core.Path.{◌≡◌, refl, sym, ◌∙◌}
 use mathlib.Core.Bool.{Bool, true}
 use mathlib.Core.List.{List}
 use Prim.Native.Nat.{ℕ}
@@ -15,11 +15,10 @@ use Rattle.row.specs.declared.refusal.Refusal.{Refusal}
 use Rattle.row.specs.Gates.{Gate}
 use Rattle.std.specs.Prelude.{Result, Ok, Err, Option, Some, None}
 use Rattle.row.specs.Answer.{Answer, at, nothing, refused, number_of, paper_found}
-use Rattle.row.specs.Gates.{row_gate, handle_gate, and_then, gate_of}
-use Rattle.mmt_layout.specs.declared.admitted.Admitted.{Admitted}
+use Rattle.row.specs.Gates.{row_gate, handle_gate, and_then}
 use Rattle.mmt_layout.specs.Layout.{block_gate, room_gate, nodes_gate}
 use Rattle.bp_spec.specs.RowCalls.{first_child, handle_answer}
-use Rattle.bp_spec.proofs.Gates.{gate_ok, gate_err, then_passed}
+use Rattle.bp_spec.proofs.Gates.{then_passed}
 use Rattle.bp_spec.specs.HandleCalls.{node_answer}
 use Rattle.list_slice.specs.Seek.{sought}
 
@@ -50,14 +49,12 @@ module _ (ws : List ℕ) (n : ℕ) (s : List ℤ) (B v : ℕ) where
   unfolding sought node_answer
   sought_refused rising k e = rw e
 
-  pub sought_err : (rising : Bool) {r : Result Admitted Refusal} → gate_of r ≡ tests ws n s B v → {k : Refusal} → r ≡ Err k
-      → refused (number_of k) ≡ sought rising ws n s B v
-  sought_err rising g {k} e = sought_refused rising k (gate_err g e)
+  pub sought_err : (rising : Bool) {g : Gate} → g ≡ tests ws n s B v → {k : Refusal} → g ≡ Err k → refused (number_of k) ≡ sought rising ws n s B v
+  sought_err rising e {k} f = sought_refused rising k (sym e ∙ f)
 
-  pub sought_first : {r : Result Admitted Refusal} → gate_of r ≡ tests ws n s B v → {t : Admitted} → r ≡ Ok t
-      → {a : Answer} → a ≡ handle_answer first_child ws n v → a ≡ sought true ws n s B v
+  pub sought_first : {g : Gate} → g ≡ tests ws n s B v → g ≡ (Ok tt) → {a : Answer} → a ≡ handle_answer first_child ws n v → a ≡ sought true ws n s B v
   unfolding sought node_answer handle_answer
-  sought_first g e f = let o = gate_ok g e in rw o (rw (tests_row o) at f)
+  sought_first e f q = let o = sym e ∙ f in rw o (rw (tests_row o) at q)
 
   pub sought_passed : (rising : Bool) → Unrefused (sought rising ws n s B v) → tests ws n s B v ≡ (Ok tt)
   sought_passed rising u = go (tests ws n s B v) refl

@@ -4,23 +4,25 @@
 --   opens_same, closes_same: they have the same open (close) bits
 --   fwd_same, bwd_same: a search answers the same on both
 --   one_tree_same: the one-tree test says the same of both
+--   bits_beyond: two rows that differ only in bits from n on have the same first n bits
 --   words_beyond: a row, and the same row with words added at the end, have the same first n bits
 -- Assumes nothing.
 use mathlib.Core.Path.{◌≡◌, sym, ap, ◌∙◌}
 use mathlib.Core.Bool.{◌&&◌}
 use mathlib.Core.List.{List, ◌++◌}
-use Prim.Native.Nat.{ℕ, suc, ◌*◌, ◌/◌, ◌%◌, ◌≤◌, ◌<◌}
+use Prim.Native.Nat.{ℕ, suc, ◌*◌, ◌/◌, ◌%◌, ◌^◌, ◌≤◌, ◌<◌}
 use native.Mathlib.Decide.{dec_lt}
 use native.Mathlib.Omega.{arith}
 use borrow.Author.Tests.{le-ltb}
 use lib.Dec.{ltb, eqb}
 use lib.IntN.{ℤ, ◌+ℤ◌}
-use lib.ListN.{length, get_or-append}
+use lib.ListN.{length, get_or, get_or-append}
 use Rattle.row.specs.Bits.{digit, bit_at}
 use Rattle.row.specs.Excess.{E}
 use Rattle.row.specs.Search.{fwd, bwd}
 use Rattle.row.specs.Tree.{opens, closes, OneTree, one_tree}
 use Rattle.row.proofs.Bools.{same_test}
+use Rattle.row.proofs.Digits.{digit_low}
 use Rattle.row.proofs.Excess.{excess_ext}
 use Rattle.row.proofs.Meaning.{Ahead, Behind, nearest_ext, fwd_is, fwd_only, bwd_is, bwd_only}
 use Rattle.row.proofs.Tree.{one_tree_true, one_tree_yes}
@@ -78,6 +80,20 @@ module _ (ws vs : List ℕ) (n : ℕ) (h : Same ws vs n) where
       same_test (one_tree ws n) (one_tree vs n)
       (λ q. one_tree_yes vs n (tree ws vs n h (one_tree_true ws n q)))
       (λ q. one_tree_yes ws n (tree vs ws n back (one_tree_true vs n q)))
+
+low_bit : (ws : List ℕ) (n k : ℕ) → k / 64 ≡ n / 64 → k % 64 < n % 64 → bit_at ws k ≡ digit (get_or ws (n / 64) 0 % 2 ^ (n % 64)) (k % 64)
+low_bit ws n k q l = rw q (sym (digit_low (get_or ws (n / 64) 0) (n % 64) (k % 64) l))
+
+-- The premises: all words before the word of bit n are equal, and in that word all bits before bit n are equal.
+pub bits_beyond : (ws vs : List ℕ) (n : ℕ) → ((q : ℕ) → q < n / 64 → get_or ws q 0 ≡ get_or vs q 0)
+    → get_or ws (n / 64) 0 % 2 ^ (n % 64) ≡ get_or vs (n / 64) 0 % 2 ^ (n % 64) → Same ws vs n
+bits_beyond ws vs n f e k l = elim (dec_lt (k / 64) (n / 64)) [
+  | yes m ↦ ap (λ (w : ℕ). digit w (k % 64)) (f (k / 64) m)
+  | no m ↦
+      let q : k / 64 ≡ n / 64 = omega arith in
+      let s : k % 64 < n % 64 = omega arith in
+      low_bit ws n k q s ∙ ap (λ (w : ℕ). digit w (k % 64)) e ∙ sym (low_bit vs n k q s)
+]
 
 pub words_beyond : (ws vs : List ℕ) (n : ℕ) → n ≤ 64 * length ws → Same ws (ws ++ vs) n
 words_beyond ws vs n h k l = ap (λ (w : ℕ). digit w (k % 64)) (sym (get_or-append ws vs 0 (k / 64) (omega arith)))

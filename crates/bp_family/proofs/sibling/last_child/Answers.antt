@@ -4,4 +4,4 @@ use Rattle.bp_spec.specs.SiblingCalls.{last_child}
 use Rattle.bp_family.proofs.sibling.last_child.Goals as goal
 
 pub returns : goal.returns
-returns c = let g = c.admit_node.ensures in node_ok _ _ _ _ _ g.gate last_child g.parts c.in_ok-admit_node.was c.last_of.ensures
+returns c = let g = c.row_for_node.ensures in node_ok _ _ _ _ _ g.gate last_child g.parts c.in_ok-row_for_node.was c.last_of.ensures

@@ -4,4 +4,4 @@ use Rattle.bp_spec.specs.SiblingCalls.{previous_sibling}
 use Rattle.bp_family.proofs.sibling.previous_sibling.Goals as goal
 
 pub returns : goal.returns
-returns c = let g = c.admit_node.ensures in node_ok _ _ _ _ _ g.gate previous_sibling g.parts c.in_ok-admit_node.was c.previous_of.ensures
+returns c = let g = c.row_for_node.ensures in node_ok _ _ _ _ _ g.gate previous_sibling g.parts c.in_ok-row_for_node.was c.previous_of.ensures

@@ -5,4 +5,4 @@ use Rattle.bp_level.proofs.from_node.level_prev.Goals as goal
 
 pub returns : goal.returns
 unfolding level_prev
-returns c = let g = c.admit_node.ensures in node_ok _ _ _ _ _ g.gate level_prev g.parts c.in_ok-admit_node.was c.walk_twice.ensures
+returns c = let g = c.row_for_node.ensures in node_ok _ _ _ _ _ g.gate level_prev g.parts c.in_ok-row_for_node.was c.walk_twice.ensures
