@@ -19,8 +19,8 @@ fn put_built(page: &mut Page, words: &[u64; 64], n: usize)
     }
 }
 
-// Puts the lines of the tree that the bytes encode, or the line of a refusal, in place of all that the page holds. A page of 65,536 bytes has
-// room for all output: the first line and at most 2,048 lines of outline nodes, of at most 20 bytes each.
+// Empties the page. Then puts the lines of the tree that the bytes encode, or the line of a refusal. A page of 65,536 bytes has room for all
+// output: the first line and at most 2,048 lines of outline nodes, of at most 20 bytes each.
 pub fn put_answer(page: &mut Page, bytes: &[u8])
     ensures { page.new ≡ printed bytes.now }
 {

@@ -1,7 +1,7 @@
 // The tests before a call that takes a handle.
 //
-// `admit_handle` and `admit_node` return only which test failed first. Their result borrows nothing, so a caller that keeps it may write
-// to the slices. `row_for_handle` and `row_for_node` make the same tests and return the row that has passed them.
+// `admit_handle` and `admit_node` return `Ok(())`, or the refusal of the first test that fails. A caller that keeps this result may write to
+// the slices. `row_for_handle` and `row_for_node` make the same tests and return the row. It borrows the slices.
 ghost use Rattle.std.specs.Prelude.{◌≡◌, length, IfOk};
 ghost use Rattle.row.specs.Gates.{row_gate, handle_gate, and_then, gate_of};
 ghost use Rattle.row.specs.Parts.{HasBits};
