@@ -13,7 +13,7 @@ use lib.IntN.{ℤ}
 use lib.ListN.{length}
 use Rattle.row.specs.declared.refusal.Refusal.{Refusal}
 use Rattle.row.specs.Gates.{Gate}
-use Rattle.std.specs.Prelude.{Result, Ok, Err, Option, Some, None}
+use Rattle.std.specs.Prelude.{Ok, Err, Option, Some, None}
 use Rattle.row.specs.Answer.{Answer, at, nothing, refused, number_of, paper_found}
 use Rattle.row.specs.Gates.{row_gate, handle_gate, and_then}
 use Rattle.mmt_layout.specs.Layout.{block_gate, room_gate, nodes_gate}
